@@ -1,0 +1,15 @@
+//! The outside of the program, behind two traits: a shelf of named files, and a sink for what is printed.
+//!
+//! A contract can't say what a real file holds, so each trait has ghost members that say what is known. `told` gives
+//! the bytes of a file or sink where they are known, and nothing where they aren't. Counts of faults, one a name and
+//! kind, never fall, and an answer `Failed` comes only where the count of that name rose: so whoever calls a shelf or
+//! a sink can say of each of its own answers which fault was its cause, also where no byte is told.
+#![tactic(auto)]
+
+mod faults;
+mod shelf;
+mod sink;
+
+pub use faults::{Failed, Memory};
+pub use shelf::{LAST_PLACE, Shelf};
+pub use sink::Sink;
