@@ -1,0 +1,18 @@
+//! The template of a library's types and links, and the names of its components.
+//!
+//! `expand` makes all components and edges that an architecture may have: it answers
+//! `template_of` of the types and links. `has_few_components` and `has_few_edges` are the tests of
+//! the limits, before anything is made. `name_of` and `push_name` give a component's name as
+//! people write it, `bus.2`; `find_component` and `find_edge` go the other way.
+//!
+//! Stands on `arch_model`. `expand` looks at each pair of components for each link; a name is
+//! found by a look at each component.
+#![tactic(auto)]
+
+mod edges;
+mod instances;
+mod names;
+
+pub use edges::{expand, has_few_edges};
+pub use instances::has_few_components;
+pub use names::{name_of, push_name};
