@@ -10,9 +10,11 @@
 #![tactic(auto)]
 
 mod edges;
+mod finding;
 mod instances;
 mod names;
 
 pub use edges::{expand, has_few_edges};
+pub use finding::{find_component, find_edge};
 pub use instances::has_few_components;
 pub use names::{name_of, push_name};
