@@ -1,2 +1,7 @@
+pub mod Counts
+pub mod Failing
 pub mod Faults
+pub mod Kept
+pub mod Named
+pub mod Printed
 pub mod Told

@@ -6,10 +6,19 @@
 //! a sink can say of each of its own answers which fault was its cause, also where no byte is told.
 #![tactic(auto)]
 
+mod copies;
+mod counts;
+mod failing;
+mod fault_counts;
 mod faults;
+mod mem_file;
+mod mem_shelf;
+mod mem_sink;
 mod shelf;
 mod sink;
 
 pub use faults::{Failed, Memory};
+pub use mem_shelf::MemShelf;
+pub use mem_sink::MemSink;
 pub use shelf::{LAST_PLACE, Shelf};
 pub use sink::Sink;

@@ -1,0 +1,4 @@
+pub mod NamedLaws
+pub mod CountLaws
+pub mod KeptSteps
+pub mod KeptLaws

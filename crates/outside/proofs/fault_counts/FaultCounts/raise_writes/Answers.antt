@@ -1,0 +1,11 @@
+use Rattle.outside.specs.Counts.{after_failed_write}
+use Rattle.outside.proofs.CountLaws.{counts_after-own, counts_after-shared}
+use Rattle.outside.proofs.fault_counts.FaultCounts.raise_writes.Goals as goal
+
+pub returns-in-Some : goal.returns-in-Some
+returns-in-Some c =
+    counts_after-own after_failed_write _ _ _ _ _ _ _ c.self.view_is c.in-Some.ensures c.index_mut.ensures.value c.raise_writes.ensures
+
+pub returns-in-None : goal.returns-in-None
+returns-in-None c =
+    counts_after-shared after_failed_write _ _ _ _ _ c.self.view_is c.in-None.ensures c.raise_writes-in-None.ensures
