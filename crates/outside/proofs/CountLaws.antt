@@ -1,10 +1,12 @@
 -- Counts of faults by name: one change at a time.
-use Rattle.std.proofs.Common.{◌≡◌, ℕ, cond, List, get_or, set, Option, Some, None, position, sym, ap, ◌∙◌, is_some, subst}
+use Rattle.std.proofs.Common.{◌≡◌, ℕ, ◌≤◌, Bool, true, false, cond, refl, arith, option_map, unwrap_or, List, get_or, set, Option, Some, None, position, sym, ap, ◌∙◌, is_some, subst}
 use Rattle.std.specs.Str.{bytes_eq}
 use Rattle.outside.specs.declared.counts.Counts.{Counts}
 use Rattle.outside.specs.Named.{item_of, changed_at}
-use Rattle.outside.specs.Counts.{FaultCounts, counts_after}
-use Rattle.outside.proofs.NamedLaws.{item_of-place, changed_at-place, item_of-missing}
+use Rattle.std.proofs.lemmas.Iterator.Adapters.{option_map_id}
+use Rattle.outside.specs.Faults.{Rose}
+use Rattle.outside.specs.Counts.{FaultCounts, one_more, after_failed_read, after_failed_write, counts_of, counts_after}
+use Rattle.outside.proofs.NamedLaws.{item_of-place, changed_at-place, item_of-missing, item_of-changed_same, item_of-changed_related}
 
 -- a table of its two parts
 abbrev pub table : List (List ℕ × Counts) → Counts → FaultCounts
@@ -29,3 +31,67 @@ counts_after-shared change name rows others new v is h step =
     let T : FaultCounts → Type 0 = λ w. None ≡ position (λ row. bytes_eq row.0 name) w.named → table rows new ≡ counts_after change w name in
     let U : Option Counts → Type 0 = λ o. table rows new ≡ cond (is_some o) (table (changed_at name change rows) others) (table rows (change others)) in
     subst T is (λ p. subst U (sym (item_of-missing name rows (sym p))) (ap (λ (c : Counts). table rows c) step)) h
+
+-- a fact of both answers of a test
+pub by_cases : {A : Type 0} (T : A → Type 0) (b : Bool) (y z : A) → (b ≡ true → T y) → (b ≡ false → T z) → T (cond b y z)
+by_cases T true y z p q = p refl
+by_cases T false y z p q = q refl
+
+-- no count of a name fell
+abbrev pub NoLess : Counts → Counts → Type 0
+NoLess c d = (c.reads ≤ d.reads) × (c.writes ≤ d.writes)
+
+pub same_counts : (c : Counts) → NoLess c c
+same_counts c = (omega arith, omega arith)
+
+pub read_raised : (c : Counts) → NoLess c (after_failed_read c)
+read_raised c = (omega arith, omega arith)
+
+pub write_raised : (c : Counts) → NoLess c (after_failed_write c)
+write_raised c = (omega arith, omega arith)
+
+-- a count that was raised rose
+pub rose : (n m : ℕ) → m ≡ one_more n → Rose n m
+rose n m e = omega arith
+
+-- all names, after a fault of one
+own_raised : (change : Counts → Counts) (o : Option Counts) (c : Counts) → is_some o ≡ true → unwrap_or (option_map change o) c ≡ change (unwrap_or o c)
+own_raised change None c h = cc
+own_raised change (Some x) c h = refl
+
+shared_raised : (change : Counts → Counts) (o : Option Counts) (c : Counts) → is_some o ≡ false → unwrap_or o (change c) ≡ change (unwrap_or o c)
+shared_raised change None c h = refl
+shared_raised change (Some x) c h = cc
+
+others_related : (o : Option Counts) (c d : Counts) → NoLess c d → NoLess (unwrap_or o c) (unwrap_or o d)
+others_related None c d h = h
+others_related (Some x) c d h = same_counts x
+
+raised_of : (change : Counts → Counts) (c : FaultCounts) (name : List ℕ) → counts_of (counts_after change c name) name ≡ change (counts_of c name)
+raised_of change c name =
+    by_cases (λ (t : FaultCounts). counts_of t name ≡ change (counts_of c name)) (is_some (item_of name c.named)) _ _
+    (λ own. ap (λ (o : Option Counts). unwrap_or o c.others) (item_of-changed_same name change c.named) ∙ own_raised change (item_of name c.named) c.others own)
+    (λ missing. shared_raised change (item_of name c.named) c.others missing)
+
+no_less_of : (change : Counts → Counts) → ((x : Counts) → NoLess x (change x)) → (c : FaultCounts) (name other : List ℕ) → NoLess (counts_of c other) (counts_of (counts_after change c name) other)
+no_less_of change step c name other =
+    by_cases (λ (t : FaultCounts). NoLess (counts_of c other) (counts_of t other)) (is_some (item_of name c.named)) _ _
+    (λ _.
+    let P : Option Counts → Option Counts → Type 0 = λ o p. NoLess (unwrap_or o c.others) (unwrap_or p c.others) in
+    let before : Option Counts = item_of other c.named in
+    let after : Option Counts = item_of other (changed_at name change c.named) in
+    let seen : P (option_map (λ x. x) before) (option_map (λ x. x) after) = item_of-changed_related NoLess (λ x. x) change same_counts step name other c.named c.others in
+    subst (λ (o : Option Counts). P o after) (option_map_id before) (subst (λ (p : Option Counts). P (option_map (λ x. x) before) p) (option_map_id after) seen))
+    (λ _. others_related (item_of other c.named) c.others (change c.others) (step c.others))
+
+pub counts-raised : (change : Counts → Counts) → ((x : Counts) → NoLess x (change x)) → (s t : FaultCounts) (name : List ℕ) → t ≡ counts_after change s name → (other : List ℕ) → NoLess (counts_of s other) (counts_of t other)
+counts-raised change step s t name e other =
+    subst (λ (w : FaultCounts). NoLess (counts_of s other) (counts_of w other)) (sym e) (no_less_of change step s name other)
+
+pub rose-reads : (s t : FaultCounts) (name : List ℕ) → t ≡ counts_after after_failed_read s name → Rose (counts_of s name).reads (counts_of t name).reads
+rose-reads s t name e =
+    rose _ _ (ap (λ (w : FaultCounts). (counts_of w name).reads) e ∙ ap (λ (c : Counts). c.reads) (raised_of after_failed_read s name))
+
+pub rose-writes : (s t : FaultCounts) (name : List ℕ) → t ≡ counts_after after_failed_write s name → Rose (counts_of s name).writes (counts_of t name).writes
+rose-writes s t name e =
+    rose _ _ (ap (λ (w : FaultCounts). (counts_of w name).writes) e ∙ ap (λ (c : Counts). c.writes) (raised_of after_failed_write s name))

@@ -1,18 +1,15 @@
 -- What each call makes of what is told by a shelf in memory, and of its counts.
-use Rattle.std.proofs.Common.{◌≡◌, ◌≢◌, ℕ, ◌≤◌, Bool, true, false, cond, List, [], ◌∷◌, ◌++◌, length, take, Option, Some, None, refl, sym, ap, ◌∙◌, arith, is_some, option_map, unwrap_or, subst, Result, Ok, Err, is_ok, IfOk, OnOk, OnErr, MatchResult, IfSome}
+use Rattle.std.proofs.Common.{◌≡◌, ◌≢◌, ℕ, Bool, true, false, cond, List, [], ◌∷◌, ◌++◌, length, take, Option, Some, None, refl, sym, ap, ◌∙◌, is_some, option_map, unwrap_or, subst, Result, Ok, Err, is_ok, IfOk, OnOk, OnErr, MatchResult, IfSome}
 use Rattle.std.specs.Str.{bytes_eq}
 use Rattle.std.proofs.lemmas.Slice.Eq.{bytes_eq-Decides}
 use Rattle.outside.specs.declared.counts.Counts.{Counts}
 use Rattle.outside.specs.Faults.{Rose}
 use Rattle.outside.specs.Named.{item_of}
 use Rattle.outside.specs.Told.{Appends}
-use Rattle.outside.specs.Counts.{one_more, after_failed_read, after_failed_write}
+use Rattle.outside.specs.Counts.{after_failed_read, after_failed_write}
 use Rattle.outside.specs.Kept.{Kept, KeptFile, told_of, counts_of_kept, read_faults_of, write_faults_of, call_passes, append_passes, with_counts, with_bytes, with_piece, file_put, after_put, after_change, after_fault, after_read, after_fresh, after_append}
+use Rattle.outside.proofs.CountLaws.{by_cases, NoLess, same_counts, read_raised, write_raised, rose}
 use Rattle.outside.proofs.NamedLaws.{item_of-changed_same, item_of-changed_other, item_of-changed_kept, item_of-changed_related, item_of-append, item_of-append_new}
-
-by_cases : {A : Type 0} (T : A → Type 0) (b : Bool) (y z : A) → (b ≡ true → T y) → (b ≡ false → T z) → T (cond b y z)
-by_cases T true y z p q = p refl
-by_cases T false y z p q = q refl
 
 -- what is told
 told_after_fault : (change : Counts → Counts) (s : Kept) (name other : List ℕ) → told_of (after_fault change s name) other ≡ told_of s other
@@ -87,18 +84,6 @@ appended-after_append (Err x) s t name piece go whole e =
     subst T (sym there) (same_still (told_of s name))
 
 -- counts: no count falls, and that of a call that failed rose
-abbrev pub NoLess : Counts → Counts → Type 0
-NoLess c d = (c.reads ≤ d.reads) × (c.writes ≤ d.writes)
-
-same_counts : (c : Counts) → NoLess c c
-same_counts c = (omega arith, omega arith)
-
-read_raised : (c : Counts) → NoLess c (after_failed_read c)
-read_raised c = (omega arith, omega arith)
-
-write_raised : (c : Counts) → NoLess c (after_failed_write c)
-write_raised c = (omega arith, omega arith)
-
 others_related : (o : Option Counts) (c d : Counts) → NoLess c d → NoLess (unwrap_or o c) (unwrap_or o d)
 others_related None c d h = h
 others_related (Some x) c d h = same_counts x
@@ -142,9 +127,6 @@ counts-after_fault change s name =
     by_cases (λ (t : Kept). counts_of_kept t name ≡ change (counts_of_kept s name)) (is_some (item_of name s.files)) _ _
     (λ own. ap (λ (o : Option KeptFile). unwrap_or (option_map (λ (f : KeptFile). f.counts) o) s.others) (item_of-changed_same name (with_counts change) s.files) ∙ own_raised change (item_of name s.files) s.others own)
     (λ missing. shared_raised change (item_of name s.files) s.others missing)
-
-rose : (n m : ℕ) → m ≡ one_more n → Rose n m
-rose n m e = omega arith
 
 pub rose-after_read : {T E : Type 0} (r : Result T E) (s t : Kept) (name : List ℕ) → is_ok r ≡ call_passes s name → t ≡ after_read s name → OnErr r (Rose (read_faults_of s name) (read_faults_of t name))
 rose-after_read (Ok x) s t name go e = tt

@@ -1,5 +1,5 @@
 -- Counts of faults by name.
-use Rattle.std.specs.Prelude.{ℕ, ◌+◌, ◌-◌, ◌^◌, cond, min, max, is_some, List, ◌∷◌, ◌++◌, [], unwrap_or}
+use Rattle.std.specs.Prelude.{ℕ, ◌+◌, ◌-◌, ◌^◌, cond, min, max, is_some, map, List, ◌∷◌, ◌++◌, [], unwrap_or}
 use Rattle.outside.specs.declared.counts.Counts.{Counts}
 use Rattle.outside.specs.Named.{item_of, changed_at}
 
@@ -34,3 +34,7 @@ counts_after change c name =
 -- all counts once a name has its own, which start at the shared ones
 abbrev pub counts_with : FaultCounts → List ℕ → FaultCounts
 counts_with c name = record { named = c.named ++ (name, c.others) ∷ []; others = c.others }
+
+-- no fault yet, with counts of their own for these names
+abbrev pub no_faults : List (List ℕ) → FaultCounts
+no_faults names = record { named = map (λ name. (name, record { reads = 0; writes = 0 })) names; others = record { reads = 0; writes = 0 } }

@@ -1,7 +1,8 @@
 // Counts of faults by name.
-ghost use Rattle.std.specs.Prelude.{◌≡◌, [], position, IfOk, OnOk, OnErr};
+ghost use Rattle.std.specs.Prelude.{◌≡◌, ℕ, ◌≤◌, List, [], position, IfOk, OnOk, OnErr};
 ghost use Rattle.std.specs.Str.{bytes_eq};
-ghost use Rattle.outside.specs.Counts.{after_failed_read, after_failed_write, counts_after, counts_with};
+ghost use Rattle.outside.specs.Counts.{after_failed_read, after_failed_write, counts_of, counts_after, counts_with};
+ghost use Rattle.outside.specs.Faults.{Rose};
 
 use crate::counts::Counts;
 use crate::faults::Memory;
@@ -93,7 +94,10 @@ impl FaultCounts {
     }
 
     pub fn raise_reads(&mut self, name: &str)
-        ensures { self.new ≡ counts_after after_failed_read self.old name.now }
+        ensures after { self.new ≡ counts_after after_failed_read self.old name.now }
+        ensures rose { Rose (counts_of self.old name.now).reads (counts_of self.new name.now).reads }
+        ensures reads_never_fall { (other : List ℕ) → (counts_of self.old other).reads ≤ (counts_of self.new other).reads }
+        ensures writes_never_fall { (other : List ℕ) → (counts_of self.old other).writes ≤ (counts_of self.new other).writes }
     {
         match self.place_of(name) {
             Some(place) => self.rows[place].raise_reads(),
@@ -102,7 +106,10 @@ impl FaultCounts {
     }
 
     pub fn raise_writes(&mut self, name: &str)
-        ensures { self.new ≡ counts_after after_failed_write self.old name.now }
+        ensures after { self.new ≡ counts_after after_failed_write self.old name.now }
+        ensures rose { Rose (counts_of self.old name.now).writes (counts_of self.new name.now).writes }
+        ensures reads_never_fall { (other : List ℕ) → (counts_of self.old other).reads ≤ (counts_of self.new other).reads }
+        ensures writes_never_fall { (other : List ℕ) → (counts_of self.old other).writes ≤ (counts_of self.new other).writes }
     {
         match self.place_of(name) {
             Some(place) => self.rows[place].raise_writes(),

@@ -8,6 +8,7 @@
 
 mod copies;
 mod counts;
+mod disk_shelf;
 mod failing;
 mod fault_counts;
 mod faults;
@@ -16,9 +17,12 @@ mod mem_shelf;
 mod mem_sink;
 mod shelf;
 mod sink;
+mod stdout_sink;
 
+pub use disk_shelf::DiskShelf;
 pub use faults::{Failed, Memory};
 pub use mem_shelf::MemShelf;
 pub use mem_sink::MemSink;
 pub use shelf::{LAST_PLACE, Shelf};
 pub use sink::Sink;
+pub use stdout_sink::StdoutSink;

@@ -1,11 +1,29 @@
 use Rattle.outside.specs.Counts.{after_failed_read}
-use Rattle.outside.proofs.CountLaws.{counts_after-own, counts_after-shared}
+use Rattle.outside.proofs.CountLaws.{counts_after-own, counts_after-shared, counts-raised, read_raised, rose-reads}
 use Rattle.outside.proofs.fault_counts.FaultCounts.raise_reads.Goals as goal
 
-pub returns-in-Some : goal.returns-in-Some
-returns-in-Some c =
+pub returns-in-Some-clause-after : goal.returns-in-Some-clause-after
+returns-in-Some-clause-after c =
     counts_after-own after_failed_read _ _ _ _ _ _ _ c.self.view_is c.in-Some.ensures c.index_mut.ensures.value c.raise_reads.ensures
 
-pub returns-in-None : goal.returns-in-None
-returns-in-None c =
+pub returns-in-Some-clause-rose : goal.returns-in-Some-clause-rose
+returns-in-Some-clause-rose c = rose-reads c.args.self.now _ c.args.name.now (returns-in-Some-clause-after c)
+
+pub returns-in-Some-clause-reads_never_fall : goal.returns-in-Some-clause-reads_never_fall
+returns-in-Some-clause-reads_never_fall c = λ other. (counts-raised after_failed_read read_raised c.args.self.now _ c.args.name.now (returns-in-Some-clause-after c) other).0
+
+pub returns-in-Some-clause-writes_never_fall : goal.returns-in-Some-clause-writes_never_fall
+returns-in-Some-clause-writes_never_fall c = λ other. (counts-raised after_failed_read read_raised c.args.self.now _ c.args.name.now (returns-in-Some-clause-after c) other).1
+
+pub returns-in-None-clause-after : goal.returns-in-None-clause-after
+returns-in-None-clause-after c =
     counts_after-shared after_failed_read _ _ _ _ _ c.self.view_is c.in-None.ensures c.raise_reads-in-None.ensures
+
+pub returns-in-None-clause-rose : goal.returns-in-None-clause-rose
+returns-in-None-clause-rose c = rose-reads c.args.self.now _ c.args.name.now (returns-in-None-clause-after c)
+
+pub returns-in-None-clause-reads_never_fall : goal.returns-in-None-clause-reads_never_fall
+returns-in-None-clause-reads_never_fall c = λ other. (counts-raised after_failed_read read_raised c.args.self.now _ c.args.name.now (returns-in-None-clause-after c) other).0
+
+pub returns-in-None-clause-writes_never_fall : goal.returns-in-None-clause-writes_never_fall
+returns-in-None-clause-writes_never_fall c = λ other. (counts-raised after_failed_read read_raised c.args.self.now _ c.args.name.now (returns-in-None-clause-after c) other).1
