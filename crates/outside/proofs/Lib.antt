@@ -1,4 +1,5 @@
-pub mod NamedLaws
 pub mod CountLaws
-pub mod KeptSteps
 pub mod KeptLaws
+pub mod KeptSteps
+pub mod NamedLaws
+pub mod SureLaws

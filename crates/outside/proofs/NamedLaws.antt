@@ -96,3 +96,11 @@ item_of-changed_related {X = X} P seen change same step name other (row ∷ rows
       | true ↦ elim (bytes_eq row.0 other) as (λ w. P (unwrap_or (option_map seen (cond w (Some row.1) (item_of other rows))) d) (unwrap_or (option_map seen (cond w (Some (change row.1)) (item_of other rows))) d)) [ true ↦ step row.1 | false ↦ same _ ]
       | false ↦ elim (bytes_eq row.0 other) as (λ w. P (unwrap_or (option_map seen (cond w (Some row.1) (item_of other rows))) d) (unwrap_or (option_map seen (cond w (Some row.1) (item_of other (changed_at name change rows)))) d)) [ true ↦ same _ | false ↦ rest ]
     ]
+
+-- no item of that name: nothing is changed
+pub changed_at-missing : {X : Type 0} (name : List ℕ) (change : X → X) (rows : List (List ℕ × X)) → item_of name rows ≡ None → changed_at name change rows ≡ rows
+changed_at-missing name change [] h = refl
+changed_at-missing {X = X} name change (row ∷ rows) h =
+    let rest = changed_at-missing name change rows in
+    let step : (b : Bool) → cond b (Some row.1) (item_of name rows) ≡ None → cond b ((row.0, change row.1) ∷ rows) (row ∷ changed_at name change rows) ≡ row ∷ rows = elim [ true ↦ λ e. cc | false ↦ λ e. ap (λ l. row ∷ l) (rest e) ] in
+    step (bytes_eq row.0 name) h

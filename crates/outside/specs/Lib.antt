@@ -4,4 +4,5 @@ pub mod Faults
 pub mod Kept
 pub mod Named
 pub mod Printed
+pub mod Sure
 pub mod Told
