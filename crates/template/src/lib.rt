@@ -18,3 +18,6 @@ pub use edges::{expand, has_few_edges};
 pub use finding::{find_component, find_edge};
 pub use instances::has_few_components;
 pub use names::{name_of, push_name};
+
+#[cfg(test)]
+mod tests;
