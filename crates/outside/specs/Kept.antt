@@ -38,9 +38,13 @@ read_faults_of s name = (counts_of_kept s name).reads
 abbrev pub write_faults_of : Kept → List ℕ → ℕ
 write_faults_of s name = (counts_of_kept s name).writes
 
--- a file as it is put: with the shelf's room, or its own length where that is more, and counts that start at the shared ones
+-- a file as it is put: with a room, or its own length where that is more
+abbrev pub new_file : ℕ → Counts → List ℕ → KeptFile
+new_file room counts bytes = record { bytes = bytes; room = max room (length bytes); counts = counts }
+
+-- a file as it is put on a shelf: its counts start at the shared ones
 abbrev pub file_put : Kept → List ℕ → KeptFile
-file_put s bytes = record { bytes = bytes; room = max s.room (length bytes); counts = s.others }
+file_put s bytes = new_file s.room s.others bytes
 
 -- the shelf once a file was put
 abbrev pub after_put : Kept → List ℕ → List ℕ → Kept

@@ -1,5 +1,5 @@
 -- What is told of a file or a sink: its bytes, or nothing where a real file or terminal is behind it.
-use Rattle.std.specs.Prelude.{◌≡◌, ℕ, ◌-◌, ◌<◌, ◌≤◌, Option, None, Some, List, ◌++◌, length, take, drop, IfSome}
+use Rattle.std.specs.Prelude.{◌≡◌, ◌≢◌, ℕ, ◌-◌, ◌<◌, ◌≤◌, Option, None, Some, List, ◌++◌, length, take, drop, IfSome}
 
 -- what a read of n bytes from place on left in a buffer, where the file's bytes are told: the n bytes that stand there, and 0 only at the end
 abbrev pub Finds : Option (List ℕ) → ℕ → List ℕ → ℕ → Type 0
@@ -12,3 +12,7 @@ Appends before now piece = IfSome now (λ bytes. (front : List ℕ) × (before �
 -- nothing is told of a sink, or of any name's file
 abbrev pub untold : Option (List ℕ)
 untold = None
+
+-- what is told of every name but one is as it was
+abbrev pub OthersStay : List ℕ → (List ℕ → Option (List ℕ)) → (List ℕ → Option (List ℕ)) → Type 0
+OthersStay name before now = (other : List ℕ) → other ≢ name → now other ≡ before other

@@ -1,8 +1,8 @@
 // Real files.
 ghost use Rattle.std.specs.Prelude.{◌≡◌, ◌≢◌, ℕ, ◌<◌, ◌≤◌, List, [], length, map, take, string_bytes, IfSome, IfOk, OnOk, OnErr, MatchResult};
-ghost use Rattle.outside.specs.Faults.{Rose};
+ghost use Rattle.outside.specs.Faults.{Rose, NeverFall};
 ghost use Rattle.outside.specs.Told.{Finds, Appends, untold};
-ghost use Rattle.outside.specs.Counts.{no_faults, counts_of, counts_after, after_failed_read, after_failed_write};
+ghost use Rattle.outside.specs.Counts.{no_faults, counts_of, counts_after, after_failed_read, after_failed_write, reads_of, writes_of};
 
 use crate::fault_counts::FaultCounts;
 use crate::faults::{Failed, Memory};
@@ -65,18 +65,18 @@ impl<'a, R: Files> DiskShelf<'a, R> {
 impl<R: Files> Shelf for DiskShelf<'_, R> {
     ghost told = { λ s name. untold };
 
-    ghost read_faults = { λ s name. (counts_of s name).reads };
+    ghost read_faults = { reads_of };
 
-    ghost write_faults = { λ s name. (counts_of s name).writes };
+    ghost write_faults = { writes_of };
 
     fn read_at(&mut self, name: &str, place: u64, into: &mut [u8]) -> Result<usize, Failed>
         requires { place ≤ LAST_PLACE }
         ensures within { IfOk result (λ n. n ≤ length into.new) }
         ensures found { IfOk result (Finds untold place into.new) }
-        ensures failed { OnErr result (Rose (counts_of self.old name.now).reads (counts_of self.new name.now).reads) }
+        ensures failed { OnErr result (Rose (reads_of self.old name.now) (reads_of self.new name.now)) }
         ensures told_stays { (other : List ℕ) → untold ≡ untold }
-        ensures reads_never_fall { (other : List ℕ) → (counts_of self.old other).reads ≤ (counts_of self.new other).reads }
-        ensures writes_never_fall { (other : List ℕ) → (counts_of self.old other).writes ≤ (counts_of self.new other).writes }
+        ensures reads_never_fall { NeverFall (reads_of self.old) (reads_of self.new) }
+        ensures writes_never_fall { NeverFall (writes_of self.old) (writes_of self.new) }
 
         // A success leaves all counts; a failure raises this one alone.
         ensures ok { OnOk result (self.new ≡ self.old) }
@@ -93,10 +93,10 @@ impl<R: Files> Shelf for DiskShelf<'_, R> {
 
     fn fresh(&mut self, name: &str) -> Result<(), Failed>
         ensures empty { OnOk result (IfSome untold (λ bytes. bytes ≡ [])) }
-        ensures failed { OnErr result (Rose (counts_of self.old name.now).writes (counts_of self.new name.now).writes) }
+        ensures failed { OnErr result (Rose (writes_of self.old name.now) (writes_of self.new name.now)) }
         ensures told_stays { (other : List ℕ) → other ≢ name.now → untold ≡ untold }
-        ensures reads_never_fall { (other : List ℕ) → (counts_of self.old other).reads ≤ (counts_of self.new other).reads }
-        ensures writes_never_fall { (other : List ℕ) → (counts_of self.old other).writes ≤ (counts_of self.new other).writes }
+        ensures reads_never_fall { NeverFall (reads_of self.old) (reads_of self.new) }
+        ensures writes_never_fall { NeverFall (writes_of self.old) (writes_of self.new) }
 
         // A success leaves all counts; a failure raises this one alone.
         ensures ok { OnOk result (self.new ≡ self.old) }
@@ -115,11 +115,13 @@ impl<R: Files> Shelf for DiskShelf<'_, R> {
         requires { 0 < length piece.now }
         ensures some { IfOk result (λ n. 0 < n) }
         ensures within { IfOk result (λ n. n ≤ length piece.now) }
-        ensures added { MatchResult result (λ n. Appends untold untold (take n piece.now)) (λ _. Appends untold untold []) }
-        ensures failed { OnErr result (Rose (counts_of self.old name.now).writes (counts_of self.new name.now).writes) }
+        ensures added { MatchResult result
+            (λ n. Appends untold untold (take n piece.now))
+            (λ _. Appends untold untold []) }
+        ensures failed { OnErr result (Rose (writes_of self.old name.now) (writes_of self.new name.now)) }
         ensures told_stays { (other : List ℕ) → other ≢ name.now → untold ≡ untold }
-        ensures reads_never_fall { (other : List ℕ) → (counts_of self.old other).reads ≤ (counts_of self.new other).reads }
-        ensures writes_never_fall { (other : List ℕ) → (counts_of self.old other).writes ≤ (counts_of self.new other).writes }
+        ensures reads_never_fall { NeverFall (reads_of self.old) (reads_of self.new) }
+        ensures writes_never_fall { NeverFall (writes_of self.old) (writes_of self.new) }
 
         // A success leaves all counts; a failure raises this one alone.
         ensures ok { OnOk result (self.new ≡ self.old) }

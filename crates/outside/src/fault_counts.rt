@@ -1,8 +1,8 @@
 // Counts of faults by name.
 ghost use Rattle.std.specs.Prelude.{◌≡◌, ℕ, ◌≤◌, List, [], position, IfOk, OnOk, OnErr};
 ghost use Rattle.std.specs.Str.{bytes_eq};
-ghost use Rattle.outside.specs.Counts.{after_failed_read, after_failed_write, counts_of, counts_after, counts_with};
-ghost use Rattle.outside.specs.Faults.{Rose};
+ghost use Rattle.outside.specs.Counts.{after_failed_read, after_failed_write, counts_of, counts_after, counts_with, reads_of, writes_of};
+ghost use Rattle.outside.specs.Faults.{Rose, NeverFall};
 
 use crate::counts::Counts;
 use crate::faults::Memory;
@@ -95,9 +95,9 @@ impl FaultCounts {
 
     pub fn raise_reads(&mut self, name: &str)
         ensures after { self.new ≡ counts_after after_failed_read self.old name.now }
-        ensures rose { Rose (counts_of self.old name.now).reads (counts_of self.new name.now).reads }
-        ensures reads_never_fall { (other : List ℕ) → (counts_of self.old other).reads ≤ (counts_of self.new other).reads }
-        ensures writes_never_fall { (other : List ℕ) → (counts_of self.old other).writes ≤ (counts_of self.new other).writes }
+        ensures rose { Rose (reads_of self.old name.now) (reads_of self.new name.now) }
+        ensures reads_never_fall { NeverFall (reads_of self.old) (reads_of self.new) }
+        ensures writes_never_fall { NeverFall (writes_of self.old) (writes_of self.new) }
     {
         match self.place_of(name) {
             Some(place) => self.rows[place].raise_reads(),
@@ -107,9 +107,9 @@ impl FaultCounts {
 
     pub fn raise_writes(&mut self, name: &str)
         ensures after { self.new ≡ counts_after after_failed_write self.old name.now }
-        ensures rose { Rose (counts_of self.old name.now).writes (counts_of self.new name.now).writes }
-        ensures reads_never_fall { (other : List ℕ) → (counts_of self.old other).reads ≤ (counts_of self.new other).reads }
-        ensures writes_never_fall { (other : List ℕ) → (counts_of self.old other).writes ≤ (counts_of self.new other).writes }
+        ensures rose { Rose (writes_of self.old name.now) (writes_of self.new name.now) }
+        ensures reads_never_fall { NeverFall (reads_of self.old) (reads_of self.new) }
+        ensures writes_never_fall { NeverFall (writes_of self.old) (writes_of self.new) }
     {
         match self.place_of(name) {
             Some(place) => self.rows[place].raise_writes(),

@@ -31,3 +31,6 @@ pub use sink::Sink;
 pub use stdout_sink::StdoutSink;
 pub use sure_shelf::SureShelf;
 pub use sure_sink::SureSink;
+
+#[cfg(test)]
+mod tests;

@@ -2,7 +2,7 @@
 ghost use Rattle.std.specs.Prelude.{◌≡◌, true, [], length, max, IfOk};
 ghost use Rattle.std.specs.Str.{bytes_eq};
 ghost use Rattle.outside.specs.Counts.{after_failed_read, after_failed_write};
-ghost use Rattle.outside.specs.Kept.{has_room, with_bytes, with_counts, with_piece};
+ghost use Rattle.outside.specs.Kept.{has_room, with_bytes, with_counts, with_piece, new_file};
 
 use crate::counts::Counts;
 use crate::faults::Memory;
@@ -38,7 +38,7 @@ impl MemFile {
         room: usize,
         counts: Counts,
     ) -> Result<MemFile, Memory>
-        ensures { IfOk result (λ f. f ≡ (name.now, record { bytes = bytes.now; room = max room (length bytes.now); counts = counts })) }
+        ensures { IfOk result (λ f. f ≡ (name.now, new_file room counts bytes.now)) }
     {
         let name = String::from_str(alloc, name)?;
         let room = room.max(bytes.len());
@@ -76,7 +76,7 @@ impl MemFile {
         piece.len() <= self.room - self.bytes.len()
     }
 
-    /// Adds a piece at the end, in the room that was made for the file.
+    /// Adds a piece at the end, in the room that was made for the file: so it takes no memory and can't fail.
     pub fn append(&mut self, piece: &[u8])
         requires { has_room self.old.1 piece.now ≡ true }
         ensures { self.new ≡ (self.old.0, with_piece piece.now self.old.1) }

@@ -1,8 +1,8 @@
 // A shelf in memory, for tests.
 ghost use Rattle.std.specs.Prelude.{◌≡◌, ◌≢◌, ℕ, ◌<◌, ◌≤◌, List, [], length, take, position, is_ok, None, Some, IfSome, IfOk, OnOk, OnErr, MatchResult, option_map};
 ghost use Rattle.std.specs.Str.{bytes_eq};
-ghost use Rattle.outside.specs.Faults.{Rose};
-ghost use Rattle.outside.specs.Told.{Finds, Appends};
+ghost use Rattle.outside.specs.Faults.{Rose, NeverFall};
+ghost use Rattle.outside.specs.Told.{Finds, Appends, OthersStay};
 ghost use Rattle.outside.specs.Kept.{new_shelf, told_of, read_faults_of, write_faults_of, call_passes, append_passes, after_put, after_read, after_fresh, after_append};
 
 use crate::copies::copy_from;
@@ -62,7 +62,7 @@ impl MemShelf {
         requires { told_of self.old name.now ≡ None }
         ensures put { OnOk result (self.new ≡ after_put self.old name.now bytes.now) }
         ensures told { OnOk result (told_of self.new name.now ≡ Some bytes.now) }
-        ensures others_stay { (other : List ℕ) → other ≢ name.now → told_of self.new other ≡ told_of self.old other }
+        ensures others_stay { OthersStay name.now (told_of self.old) (told_of self.new) }
         ensures reads_stay { (other : List ℕ) → read_faults_of self.new other ≡ read_faults_of self.old other }
         ensures writes_stay { (other : List ℕ) → write_faults_of self.new other ≡ write_faults_of self.old other }
         ensures err { OnErr result (self.new ≡ self.old) }
@@ -158,8 +158,8 @@ impl Shelf for MemShelf {
         ensures failed { OnErr result (Rose (read_faults_of self.old name.now) (read_faults_of self.new name.now)) }
 
         ensures told_stays { (other : List ℕ) → told_of self.new other ≡ told_of self.old other }
-        ensures reads_never_fall { (other : List ℕ) → read_faults_of self.old other ≤ read_faults_of self.new other }
-        ensures writes_never_fall { (other : List ℕ) → write_faults_of self.old other ≤ write_faults_of self.new other }
+        ensures reads_never_fall { NeverFall (read_faults_of self.old) (read_faults_of self.new) }
+        ensures writes_never_fall { NeverFall (write_faults_of self.old) (write_faults_of self.new) }
 
         // A read fails for one of two causes.
         ensures answers { is_ok result ≡ call_passes self.old name.now }
@@ -172,9 +172,9 @@ impl Shelf for MemShelf {
         ensures empty { OnOk result (IfSome (told_of self.new name.now) (λ bytes. bytes ≡ [])) }
         ensures failed { OnErr result (Rose (write_faults_of self.old name.now) (write_faults_of self.new name.now)) }
 
-        ensures told_stays { (other : List ℕ) → other ≢ name.now → told_of self.new other ≡ told_of self.old other }
-        ensures reads_never_fall { (other : List ℕ) → read_faults_of self.old other ≤ read_faults_of self.new other }
-        ensures writes_never_fall { (other : List ℕ) → write_faults_of self.old other ≤ write_faults_of self.new other }
+        ensures told_stays { OthersStay name.now (told_of self.old) (told_of self.new) }
+        ensures reads_never_fall { NeverFall (read_faults_of self.old) (read_faults_of self.new) }
+        ensures writes_never_fall { NeverFall (write_faults_of self.old) (write_faults_of self.new) }
 
         // It fails for one of two causes.
         ensures answers { is_ok result ≡ call_passes self.old name.now }
@@ -192,9 +192,9 @@ impl Shelf for MemShelf {
             (λ _. Appends (told_of self.old name.now) (told_of self.new name.now) []) }
         ensures failed { OnErr result (Rose (write_faults_of self.old name.now) (write_faults_of self.new name.now)) }
 
-        ensures told_stays { (other : List ℕ) → other ≢ name.now → told_of self.new other ≡ told_of self.old other }
-        ensures reads_never_fall { (other : List ℕ) → read_faults_of self.old other ≤ read_faults_of self.new other }
-        ensures writes_never_fall { (other : List ℕ) → write_faults_of self.old other ≤ write_faults_of self.new other }
+        ensures told_stays { OthersStay name.now (told_of self.old) (told_of self.new) }
+        ensures reads_never_fall { NeverFall (read_faults_of self.old) (read_faults_of self.new) }
+        ensures writes_never_fall { NeverFall (write_faults_of self.old) (write_faults_of self.new) }
 
         // An append takes its whole piece, or fails for one of three causes.
         ensures whole { IfOk result (λ n. n ≡ length piece.now) }

@@ -75,7 +75,9 @@ impl Sink for MemSink {
     {
         let passes = self.failing.pass();
         let fits = piece.len() <= self.room - self.bytes.len();
-        if passes && fits && self.bytes.extend_from_slice(piece).is_ok() {
+        if passes && fits {
+            // The room was made at the start, so this takes no memory and can't fail.
+            let _ = self.bytes.extend_from_slice(piece);
             Ok(piece.len())
         } else {
             self.faults = self.faults.saturating_add(1);

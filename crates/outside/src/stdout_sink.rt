@@ -42,7 +42,9 @@ impl<R: Print> Sink for StdoutSink<'_, R> {
         requires { 0 < length piece.now }
         ensures some { IfOk result (λ n. 0 < n) }
         ensures within { IfOk result (λ n. n ≤ length piece.now) }
-        ensures added { MatchResult result (λ n. Appends untold untold (take n piece.now)) (λ _. Appends untold untold []) }
+        ensures added { MatchResult result
+            (λ n. Appends untold untold (take n piece.now))
+            (λ _. Appends untold untold []) }
         ensures failed { OnErr result (Rose self.old self.new) }
         ensures never_falls { self.old ≤ self.new }
 

@@ -2,7 +2,7 @@
 ghost use Rattle.std.specs.Prelude.{◌≡◌, ◌≢◌, ℕ, ◌<◌, ◌≤◌, List, [], length, take, position, unwrap_or, false, None, Some, Ok, IfSome, IfOk, OnOk, OnErr, MatchResult};
 ghost use Rattle.std.specs.Str.{bytes_eq};
 ghost use Rattle.outside.specs.Faults.{Rose};
-ghost use Rattle.outside.specs.Told.{Finds, Appends};
+ghost use Rattle.outside.specs.Told.{Finds, Appends, OthersStay};
 ghost use Rattle.outside.specs.Sure.{was_put, sure_put, sure_told, written_to};
 
 use crate::copies::copy_from;
@@ -100,7 +100,7 @@ impl SureShelf {
         requires { was_put self.old name.now ≡ false }
         ensures put { OnOk result (self.new ≡ sure_put self.old name.now bytes.now) }
         ensures told { OnOk result (sure_told self.new name.now ≡ Some bytes.now) }
-        ensures others_stay { (other : List ℕ) → other ≢ name.now → sure_told self.new other ≡ sure_told self.old other }
+        ensures others_stay { OthersStay name.now (sure_told self.old) (sure_told self.new) }
         ensures err { OnErr result (self.new ≡ self.old) }
     {
         let file = SureFile::new(self.alloc, name, bytes)?;
@@ -122,7 +122,7 @@ impl SureShelf {
     fn write_to(&mut self, name: &str)
         ensures after { self.new ≡ written_to self.old name.now }
         ensures untold { sure_told self.new name.now ≡ None }
-        ensures others_stay { (other : List ℕ) → other ≢ name.now → sure_told self.new other ≡ sure_told self.old other }
+        ensures others_stay { OthersStay name.now (sure_told self.old) (sure_told self.new) }
     {
         if let Some(at) = place_of(&self.files, name) {
             self.files[at].forget();
@@ -156,7 +156,7 @@ impl Shelf for SureShelf {
     fn fresh(&mut self, name: &str) -> Result<(), Failed>
         ensures empty { OnOk result (IfSome (sure_told self.new name.now) (λ bytes. bytes ≡ [])) }
         ensures failed { OnErr result (Rose 0 0) }
-        ensures told_stays { (other : List ℕ) → other ≢ name.now → sure_told self.new other ≡ sure_told self.old other }
+        ensures told_stays { OthersStay name.now (sure_told self.old) (sure_told self.new) }
         ensures reads_never_fall { (other : List ℕ) → 0 ≤ 0 }
         ensures writes_never_fall { (other : List ℕ) → 0 ≤ 0 }
 
@@ -175,7 +175,7 @@ impl Shelf for SureShelf {
             (λ n. Appends (sure_told self.old name.now) (sure_told self.new name.now) (take n piece.now))
             (λ _. Appends (sure_told self.old name.now) (sure_told self.new name.now) []) }
         ensures failed { OnErr result (Rose 0 0) }
-        ensures told_stays { (other : List ℕ) → other ≢ name.now → sure_told self.new other ≡ sure_told self.old other }
+        ensures told_stays { OthersStay name.now (sure_told self.old) (sure_told self.new) }
         ensures reads_never_fall { (other : List ℕ) → 0 ≤ 0 }
         ensures writes_never_fall { (other : List ℕ) → 0 ≤ 0 }
 

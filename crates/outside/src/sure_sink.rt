@@ -20,7 +20,9 @@ impl Sink for SureSink {
         requires { 0 < length piece.now }
         ensures some { IfOk result (λ n. 0 < n) }
         ensures within { IfOk result (λ n. n ≤ length piece.now) }
-        ensures added { MatchResult result (λ n. Appends untold untold (take n piece.now)) (λ _. Appends untold untold []) }
+        ensures added { MatchResult result
+            (λ n. Appends untold untold (take n piece.now))
+            (λ _. Appends untold untold []) }
         ensures failed { OnErr result (Rose 0 0) }
         ensures never_falls { 0 ≤ 0 }
 
