@@ -1,27 +1,15 @@
--- Tests of instances and of present edges.
-use Rattle.std.proofs.Common.{◌≡◌, ◌≢◌, ℕ, ◌<◌, ◌≤◌, Bool, true, false, ◌&&◌, not, nat_eq, IsTrue, ◌↔◌, List, length, take, sym, ap, ◌∙◌, inl, inr}
+-- Tests of present edges.
+use Rattle.std.proofs.Common.{◌≡◌, ◌≢◌, ℕ, ◌≤◌, Bool, true, false, ◌&&◌, not, nat_eq, IsTrue, ◌↔◌, List, length, take, sym, ap, ◌∙◌, inl, inr}
 use Rattle.std.specs.List.{All, list_all}
-use Rattle.std.specs.Option.{option_map_or}
-use Rattle.std.proofs.lemmas.Option.{slice_get_cases}
 use Rattle.std.proofs.lemmas.Bool.{eq-eqb}
 use Rattle.std.proofs.lemmas.Bool.Decides.{eqb_tells}
 use Rattle.std.proofs.lemmas.List.{take_all}
 use Rattle.std.proofs.lemmas.List.Sums.{AllPass-from_list_all, list_all-from_AllPass}
 use Rattle.std.proofs.lemmas.List.Elements.{All-weaker}
 use Rattle.arch_model.specs.declared.sets.CompId.{CompId}
-use Rattle.arch_model.specs.declared.template.Component.{Component}
 use Rattle.arch_model.specs.declared.template.Edge.{Edge}
 use Rattle.arch_model.specs.Set.{Set, has}
-use Rattle.arch_model.specs.Parts.{LibraryParts}
 use Rattle.arch_model.specs.Architecture.{present}
-use Rattle.arch_model.specs.Pattern.{is_instance}
-
--- an instance is one of the components
-pub instance_below : (lib : LibraryParts) (t c : ℕ) → IsTrue (is_instance lib t c) → c < length lib.components
-instance_below lib t c is = elim (slice_get_cases lib.components c).1 [
-  | inl w ↦ w.1
-  | inr w ↦ absurd (let none : false ≡ true = sym (ap (λ o. option_map_or (λ (row : Component). nat_eq row.of t) o false) w.1) ∙ is in cc)
-]
 
 -- whether an edge goes elsewhere than from one component to another
 abbrev pub elsewhere : ℕ → ℕ → Edge → Bool

@@ -1,5 +1,6 @@
 // Counts of present components, and the kinds of pattern that rest on them.
-ghost use Rattle.std.specs.Prelude.{◌≡◌, ◌<◌, ◌≤◌, ◌↔◌, IsTrue, nat_eq, count_by};
+ghost use Rattle.std.specs.Prelude.{◌≡◌, ◌<◌, ◌≤◌, ◌&&◌, ◌↔◌, IsTrue, nat_eq, count_by};
+ghost use Rattle.arch_model.specs.Set.{has};
 ghost use Rattle.arch_model.specs.Architecture.{present_components};
 ghost use Rattle.arch_model.specs.Pattern as spec;
 
@@ -13,6 +14,13 @@ pub(crate) fn is_instance(lib: &Library, t: u32, c: CompId) -> bool
         Some(component) => component.of == t,
         None => false,
     }
+}
+
+// Whether component c is a present instance of type t.
+pub(crate) fn is_present(lib: &Library, arch: &Architecture, t: u32, c: CompId) -> bool
+    ensures { result ≡ (spec.is_instance lib.now t c.0 && has arch.now.comps c.0) }
+{
+    is_instance(lib, t, c) && arch.comps().has(c)
 }
 
 // Whether a number is at least min and, where max is given, at most max.

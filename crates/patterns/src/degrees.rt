@@ -5,7 +5,7 @@ ghost use Rattle.arch_model.specs.Architecture.{present_edges};
 ghost use Rattle.arch_model.specs.Pattern as spec;
 ghost use Rattle.arch_model.specs.Set as set;
 
-use crate::counts::{is_between, is_instance};
+use crate::counts::{is_between, is_instance, is_present};
 use arch_model::{Architecture, CompId, Edge, EdgeId, EdgeSet, Library};
 
 // Whether an edge leads from an instance of type t to component i.
@@ -64,13 +64,9 @@ pub(crate) fn in_degrees_fit(
 ) -> bool
     ensures { IsTrue result ↔ spec.EachPresent lib.now arch.now of (λ i. spec.IsBetween min max (spec.in_degree lib.now arch.now from i)) }
 {
-    let chosen = arch.comps();
     for i in 0..lib.components().len() as u32 {
         let i = CompId(i);
-        if is_instance(lib, of, i)
-            && chosen.has(i)
-            && !is_between(min, max, in_degree(lib, arch, from, i))
-        {
+        if is_present(lib, arch, of, i) && !is_between(min, max, in_degree(lib, arch, from, i)) {
             return false;
         }
     }
@@ -88,13 +84,9 @@ pub(crate) fn out_degrees_fit(
 ) -> bool
     ensures { IsTrue result ↔ spec.EachPresent lib.now arch.now of (λ i. spec.IsBetween min max (spec.out_degree lib.now arch.now to i)) }
 {
-    let chosen = arch.comps();
     for i in 0..lib.components().len() as u32 {
         let i = CompId(i);
-        if is_instance(lib, of, i)
-            && chosen.has(i)
-            && !is_between(min, max, out_degree(lib, arch, to, i))
-        {
+        if is_present(lib, arch, of, i) && !is_between(min, max, out_degree(lib, arch, to, i)) {
             return false;
         }
     }

@@ -15,3 +15,6 @@ mod pattern;
 mod supplies;
 
 pub use pattern::{first_broken, meets_pattern};
+
+#[cfg(test)]
+mod tests;

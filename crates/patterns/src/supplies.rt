@@ -3,7 +3,7 @@ ghost use Rattle.std.specs.Prelude.{◌≡◌, ◌≤◌, ◌↔◌, IsTrue, nat
 ghost use Rattle.arch_model.specs.Architecture.{present_components};
 ghost use Rattle.arch_model.specs.Pattern as spec;
 
-use crate::counts::is_instance;
+use crate::counts::is_present;
 use arch_model::{Architecture, CompId, Edge, EdgeId, Library};
 
 // The supply of component c.
@@ -85,13 +85,9 @@ pub(crate) fn each_is_supplied(lib: &Library, arch: &Architecture, of: u32) -> b
         sum_by (λ e. spec.at_component lib.now (λ c. c.demand) e.head.0) (spec.edges_out_of lib.now arch.now i)
         ≤ sum_by (λ e. spec.at_component lib.now (λ c. c.supply) e.tail.0) (spec.edges_into lib.now arch.now i)) }
 {
-    let chosen = arch.comps();
     for i in 0..lib.components().len() as u32 {
         let i = CompId(i);
-        if is_instance(lib, of, i)
-            && chosen.has(i)
-            && demand_out_of(lib, arch, i) > supply_into(lib, arch, i)
-        {
+        if is_present(lib, arch, of, i) && demand_out_of(lib, arch, i) > supply_into(lib, arch, i) {
             return false;
         }
     }
