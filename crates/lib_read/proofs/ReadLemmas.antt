@@ -1,0 +1,43 @@
+-- The library of bytes, case by case.
+use Rattle.std.proofs.Common.{◌≡◌, ℕ, ◌≤◌, List, [], ◌∷◌, length, Some, None, Ok, IsErr, refl, ap, inl, inr}
+use Rattle.std.specs.Str.{IsUtf8, is_utf8}
+use Rattle.std.proofs.lemmas.Bool.{cases_Bool, le-ltb}
+use Rattle.std.proofs.lemmas.Str.{IsUtf8-from_is_utf8, is_utf8-from_IsUtf8}
+use Rattle.toml.specs.Data.{Data, Members, table}
+use Rattle.toml.specs.Parse.{parse_document}
+use Rattle.arch_model.specs.Parts.{LibraryParts}
+use Rattle.lib_read.specs.Fault.{Fault, least, first}
+use Rattle.lib_read.specs.Tree.{tree_of}
+use Rattle.lib_read.specs.Faults.{faults_of}
+use Rattle.lib_read.specs.LibraryOf.{LARGEST, judged, library_of}
+
+pub tree_is : (bytes : List ℕ) (ms : Members) → IsUtf8 bytes → parse_document bytes ≡ Some ms → tree_of bytes ≡ Some (table ms)
+unfolding tree_of
+tree_is bytes ms text parsed = rw (is_utf8-from_IsUtf8 bytes text, parsed)
+
+pub no_tree : (bytes : List ℕ) → (IsUtf8 bytes → parse_document bytes ≡ None) → tree_of bytes ≡ None
+unfolding tree_of
+no_tree bytes refused =
+    elim (cases_Bool (is_utf8 bytes)) [
+      | inl text ↦ rw (text, refused (IsUtf8-from_is_utf8 bytes text))
+      | inr other ↦ rw other
+    ]
+
+pub library_is : (bytes : List ℕ) (top : Data) (lib : LibraryParts) → length bytes ≤ LARGEST → tree_of bytes ≡ Some top → judged top (least (faults_of top)) ≡ Ok lib → library_of bytes ≡ Ok lib
+unfolding library_of
+library_is bytes top lib few tree whole = rw (le-ltb LARGEST (length bytes) few, tree) whole
+
+pub no_document : (bytes : List ℕ) → length bytes ≤ LARGEST → tree_of bytes ≡ None → IsErr (library_of bytes)
+unfolding library_of
+no_document bytes few tree = rw (le-ltb LARGEST (length bytes) few, tree)
+
+some_fault : (top : Data) (fs : List Fault) (f : Fault) → Some f ≡ first fs → IsErr (judged top (least fs))
+some_fault top [] f e = absurd (cc)
+some_fault top (g ∷ fs) f e = refl
+
+pub fault_found : (bytes : List ℕ) (top : Data) (f : Fault) → length bytes ≤ LARGEST → tree_of bytes ≡ Some top → Some f ≡ first (faults_of top) → IsErr (library_of bytes)
+unfolding library_of
+fault_found bytes top f few tree found = rw (le-ltb LARGEST (length bytes) few, tree) (some_fault top (faults_of top) f found)
+
+pub none_found : (top : Data) → faults_of top ≡ [] → least (faults_of top) ≡ None
+none_found top e = ap least e

@@ -1,0 +1,64 @@
+use Rattle.std.proofs.Common.{◌≤◌, length, refl, sym, ap, subst, ◌∙◌, arith}
+use Rattle.std.specs.List.{All}
+use Rattle.toml.specs.View.{view}
+use Rattle.std.proofs.lemmas.List.{length-map}
+use Rattle.arch_model.specs.declared.limits.TheConstants.{COMPONENTS, EDGES}
+use Rattle.arch_model.specs.Template.{template_of, components_of, edges_of}
+use Rattle.lib_read.specs.declared.fault.TableName.TheVariants.{Patterns}
+use Rattle.lib_read.specs.Tree.{rows_of}
+use Rattle.arch_model.specs.Library.{IsTypeRow, IsLinkRow, IsLibrary}
+use Rattle.lib_read.specs.Rows.{types_of, links_by, patterns_by}
+use Rattle.lib_read.proofs.CleanLibrary.{judged_parts, types_fit, links_fit, few_names, parts_are, pattern_rows_fit, is_library}
+use Rattle.lib_read.proofs.reader.build.Goals as goal
+
+pub type_rows-requires : goal.type_rows-requires
+type_rows-requires c = let top = view c.args.top.now in types_fit top (judged_parts top c.requires.judged)
+
+pub link_rows-requires : goal.link_rows-requires
+link_rows-requires c =
+    let top = view c.args.top.now in
+    let types = c.deref.ensures.value ∙ c.in_ok-types.ensures in
+    let few = subst (λ rows. length (components_of rows) ≤ COMPONENTS) types (c.if-not-has_few_components.ensures.0 refl) in
+    subst (λ names. length names ≤ 64) (sym c.requires.names) (few_names top (judged_parts top c.requires.judged) few)
+
+pub has_few_edges-requires-clause-rows : goal.has_few_edges-requires-clause-rows
+has_few_edges-requires-clause-rows c =
+    let top = view c.args.top.now in
+    subst (All IsTypeRow) (sym (c.deref-2.ensures.value ∙ c.in_ok-types.ensures)) (types_fit top (judged_parts top c.requires.judged))
+
+pub has_few_edges-requires-clause-numbers : goal.has_few_edges-requires-clause-numbers
+has_few_edges-requires-clause-numbers c =
+    let top = view c.args.top.now in
+    let types = c.deref-2.ensures.value ∙ c.in_ok-types.ensures in
+    let links = c.deref-3.ensures.value ∙ c.in_ok-links.ensures ∙ ap (λ names. links_by names top) c.requires.names in
+    subst (λ n. All (IsLinkRow n) c.deref-3.result.now) (sym (ap length types))
+    (subst (All (IsLinkRow (length (types_of top)))) (sym links) (links_fit top (judged_parts top c.requires.judged)))
+
+pub pattern_rows-requires-clause-names : goal.pattern_rows-requires-clause-names
+pattern_rows-requires-clause-names c =
+    let top = view c.args.top.now in
+    let types = c.deref.ensures.value ∙ c.in_ok-types.ensures in
+    let few = subst (λ rows. length (components_of rows) ≤ COMPONENTS) types (c.if-not-has_few_components.ensures.0 refl) in
+    subst (λ names. length names ≤ 64) (sym c.requires.names) (few_names top (judged_parts top c.requires.judged) few)
+
+pub pattern_rows-requires-clause-fit : goal.pattern_rows-requires-clause-fit
+pattern_rows-requires-clause-fit c = let top = view c.args.top.now in pattern_rows_fit top (judged_parts top c.requires.judged)
+
+pub expand-requires-clause-rows : goal.expand-requires-clause-rows
+expand-requires-clause-rows c =
+    let top = view c.args.top.now in
+    subst (All IsTypeRow) (sym (c.deref-4.ensures.value ∙ c.in_ok-types.ensures)) (types_fit top (judged_parts top c.requires.judged))
+
+pub new-requires-2 : goal.new-requires-2
+new-requires-2 c =
+    let top = view c.args.top.now in
+    let types = c.deref.ensures.value ∙ c.in_ok-types.ensures in
+    let links = c.in_ok-links.ensures ∙ ap (λ names. links_by names top) c.requires.names in
+    let few = subst (λ rows. length (components_of rows) ≤ COMPONENTS) types (c.if-not-has_few_components.ensures.0 refl) in
+    let edges = subst (λ rows. length (edges_of (components_of rows) c.deref-3.result.now) ≤ EDGES) (c.deref-2.ensures.value ∙ c.in_ok-types.ensures) (c.if-not-has_few_edges.ensures.0 refl) in
+    let whole_edges = subst (λ rows. length (edges_of (components_of (types_of top)) rows) ≤ EDGES) (c.deref-3.ensures.value ∙ links) edges in
+    let patterns : length (rows_of Patterns top) ≤ 200 = omega (arith, length-map c.rows_of.result.now view, ap length c.rows_of.ensures, c.if-rows_of-gt-PATTERNS.false) in
+    let template = c.in_ok-template.ensures ∙ ap (λ rows. template_of rows c.deref-5.result.now) c.deref-4.ensures.value ∙ ap (template_of c.in_ok-types.types.items) c.deref-5.ensures.value in
+    subst IsLibrary
+    (sym (parts_are top c.in_ok-types.types.items c.in_ok-links.links.items c.in_ok-template.template c.in_ok-patterns.patterns.items c.new.result.items c.in_ok-types.ensures links template (c.in_ok-patterns.ensures ∙ ap (λ names. patterns_by names top) c.requires.names) c.new.ensures.items))
+    (is_library top (judged_parts top c.requires.judged) few whole_edges patterns)

@@ -1,0 +1,7 @@
+pub mod Fault
+pub mod Tree
+pub mod Schema
+pub mod Keys
+pub mod Faults
+pub mod Rows
+pub mod LibraryOf

@@ -1,0 +1,34 @@
+-- The library of bytes, or its first fault.
+use Rattle.std.specs.Prelude.{codes, ℕ, ◌<◌, nat_lt, List, length, Option, Some, None, Result, Ok, Err, IsErr, if◌then◌else◌}
+use Rattle.std.proofs.Common.{lt-ltb}
+use Rattle.toml.specs.Data.{Data}
+use Rattle.arch_model.specs.Parts.{LibraryParts}
+use Rattle.lib_read.specs.declared.fault.LibClass.TheVariants.{TooLarge, NotToml}
+use Rattle.lib_read.specs.declared.fault.TableName.TheVariants.{Library}
+use Rattle.lib_read.specs.Fault.{Fault, least}
+use Rattle.lib_read.specs.Tree.{tree_of}
+use Rattle.lib_read.specs.Faults.{fault, faults_of}
+use Rattle.lib_read.specs.Rows.{library_of_tree}
+
+-- what bytes are too many for a library file
+abbrev pub LARGEST : ℕ
+LARGEST = 1048576
+
+-- the least fault of a document, or its library where it has none
+abbrev pub judged : Data → Option Fault → Result LibraryParts Fault
+judged top None = Ok (library_of_tree top)
+judged top (Some f) = Err f
+
+abbrev pub of_tree : Option Data → Result LibraryParts Fault
+of_tree None = Err (fault NotToml Library 0 (codes "-"))
+of_tree (Some top) = judged top (least (faults_of top))
+
+-- too many bytes, bytes that are no TOML document, or what the document is
+unfoldable pub library_of : List ℕ → Result LibraryParts Fault
+library_of bytes =
+    if nat_lt LARGEST (length bytes) then Err (fault TooLarge Library 0 (codes "-")) else of_tree (tree_of bytes)
+
+-- bytes over the limit are no library
+pub too_large : (bytes : List ℕ) → LARGEST < length bytes → IsErr (library_of bytes)
+unfolding library_of
+too_large bytes h = rw (lt-ltb LARGEST (length bytes) h)

@@ -1,0 +1,91 @@
+-- The library that a document without a fault is.
+use Rattle.std.specs.Prelude.{codes, ℕ, ℤ, pos, negsuc, List, [], map, Option, option_map, unwrap_or, position, IfSome}
+use Rattle.std.specs.Option.{option_and_then}
+use Rattle.std.specs.List.{filter_map}
+use Rattle.std.specs.Str.{bytes_eq}
+use Rattle.toml.specs.Data.{Data}
+use Rattle.arch_model.specs.declared.template.Role.TheVariants.{Middle}
+use Rattle.arch_model.specs.declared.library.TypeRow.{TypeRow}
+use Rattle.arch_model.specs.declared.library.LinkRow.{LinkRow}
+use Rattle.arch_model.specs.declared.library.Pattern.{Pattern}
+use Rattle.arch_model.specs.declared.library.Pattern.TheVariants as pattern
+use Rattle.arch_model.specs.Parts.{LibraryParts}
+use Rattle.arch_model.specs.Library.{library_parts, AreBounds}
+use Rattle.arch_model.specs.Template.{template_of}
+use Rattle.lib_read.specs.declared.fault.TableName.TheVariants.{Types, Links, Patterns}
+use Rattle.lib_read.specs.declared.schema.Kind.{Kind}
+use Rattle.lib_read.specs.declared.schema.Kind.TheVariants.{Count}
+use Rattle.lib_read.specs.Tree.{text_at, integer_at, rows_of}
+use Rattle.lib_read.specs.Schema.{role_of, row_kind}
+
+-- an integer from 0 on, as a number
+abbrev pub number : ℤ → ℕ
+number (pos n) = n
+number (negsuc n) = 0
+
+-- the number at a key, and the one that stands for an absent one
+abbrev pub number_at : List ℕ → Data → Option ℕ
+number_at key row = option_map number (integer_at key row)
+
+abbrev pub number_or : ℕ → List ℕ → Data → ℕ
+number_or absent key row = unwrap_or (number_at key row) absent
+
+-- the names of the types, in file order
+abbrev pub type_names : Data → List (List ℕ)
+type_names top = filter_map (text_at (codes "name")) (rows_of Types top)
+
+-- the number of the type that the text at a key names
+abbrev pub type_at : List (List ℕ) → List ℕ → Data → ℕ
+type_at names key row = unwrap_or (option_and_then (λ text. position (bytes_eq text) names) (text_at key row)) 0
+
+abbrev pub type_row : Data → TypeRow
+type_row row = record {
+  name = unwrap_or (text_at (codes "name") row) [];
+  role = unwrap_or (option_and_then role_of (text_at (codes "role") row)) Middle;
+  max = number_or 1 (codes "max") row;
+  cost = number_or 0 (codes "cost") row;
+  supply = number_or 0 (codes "supply") row;
+  demand = number_or 0 (codes "demand") row;
+  fail = number_or 0 (codes "fail") row;
+}
+
+abbrev pub link_row : List (List ℕ) → Data → LinkRow
+link_row names row = record {
+  from = type_at names (codes "from") row;
+  to = type_at names (codes "to") row;
+  cost = number_or 0 (codes "cost") row;
+  fail = 0;
+}
+
+abbrev pub kind_row : List (List ℕ) → Data → Kind → Pattern
+kind_row names row Count = pattern.Count (type_at names (codes "type") row) (number_or 0 (codes "min") row) (number_at (codes "max") row)
+
+abbrev pub pattern_row : List (List ℕ) → Data → Option Pattern
+pattern_row names row = option_map (kind_row names row) (row_kind row)
+
+-- the numbers of a pattern's row are in their ranges
+abbrev pub KindFits : Data → Kind → Type 0
+KindFits row Count = AreBounds (number_or 0 (codes "min") row) (number_at (codes "max") row)
+
+abbrev pub PatternFits : Data → Type 0
+PatternFits row = IfSome (row_kind row) (KindFits row)
+
+-- the rows of a document
+abbrev pub types_of : Data → List TypeRow
+types_of top = map type_row (rows_of Types top)
+
+abbrev pub links_by : List (List ℕ) → Data → List LinkRow
+links_by names top = map (link_row names) (rows_of Links top)
+
+abbrev pub patterns_by : List (List ℕ) → Data → List Pattern
+patterns_by names top = filter_map (pattern_row names) (rows_of Patterns top)
+
+abbrev pub links_of : Data → List LinkRow
+links_of top = links_by (type_names top) top
+
+abbrev pub patterns_of : Data → List Pattern
+patterns_of top = patterns_by (type_names top) top
+
+-- the library of a document, with the template of its types and links
+abbrev pub library_of_tree : Data → LibraryParts
+library_of_tree top = library_parts (types_of top) (links_of top) (template_of (types_of top) (links_of top)) (patterns_of top) []

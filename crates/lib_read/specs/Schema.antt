@@ -1,0 +1,134 @@
+-- The keys of each table, with what is expected of their values.
+use Rattle.std.specs.Prelude.{codes, ℕ, Bool, true, false, ◌&&◌, not, nat_le, List, [], ◌∷◌, length, Option, Some, None, is_some, is_none, option_and_then, if◌then◌else◌, pos, negsuc, ℤ}
+use Rattle.std.specs.Option.{option_map_or}
+use Rattle.std.specs.List.{list_any, list_all}
+use Rattle.std.specs.Str.{bytes_eq}
+use Rattle.toml.specs.Data.{Data, get, as_str, as_integer, as_array}
+use Rattle.arch_model.specs.Name.{begins_lower, is_name_byte}
+use Rattle.arch_model.specs.declared.template.Role.{Role}
+use Rattle.arch_model.specs.declared.template.Role.TheVariants.{Source, Middle, Sink}
+use Rattle.lib_read.specs.declared.fault.LibClass.{LibClass}
+use Rattle.lib_read.specs.declared.fault.LibClass.TheVariants.{MissingKey, WrongKind, BadName, UnknownName, Range}
+use Rattle.lib_read.specs.declared.fault.TableName.{TableName}
+use Rattle.lib_read.specs.declared.fault.TableName.TheVariants.{Library, Types, Links, Patterns, Requires}
+use Rattle.lib_read.specs.declared.schema.Meaning.{Meaning}
+use Rattle.lib_read.specs.declared.schema.Meaning.TheVariants.{Rows, NewName, RoleWord, KindWord, TypeName, Number, Text, Integer}
+use Rattle.lib_read.specs.declared.schema.Kind.{Kind}
+use Rattle.lib_read.specs.declared.schema.Kind.TheVariants.{Count}
+use Rattle.lib_read.specs.Tree.{text_at, integer_at}
+
+-- a key of a table: whether it is required, and what its value means
+pub record KeyRow : Type 0 where
+  pub name : List ℕ
+  pub required : Bool
+  pub meaning : Meaning
+
+abbrev pub needs : List ℕ → Meaning → KeyRow
+needs name meaning = record { name = name; required = true; meaning = meaning }
+
+abbrev pub takes : List ℕ → Meaning → KeyRow
+takes name meaning = record { name = name; required = false; meaning = meaning }
+
+-- the keys of the document, of a type and of a link, in byte order
+abbrev pub library_keys : List KeyRow
+library_keys = takes (codes "link") Rows ∷ (takes (codes "pattern") Rows ∷ (takes (codes "type") Rows ∷ []))
+
+abbrev pub type_keys : List KeyRow
+type_keys =
+    takes (codes "cost") (Number 0 1000000000000)
+    ∷ (takes (codes "demand") (Number 0 1000000000000)
+    ∷ (takes (codes "fail") (Number 0 1000000)
+    ∷ (takes (codes "max") (Number 1 64)
+    ∷ (needs (codes "name") NewName
+    ∷ (needs (codes "role") RoleWord
+    ∷ (takes (codes "supply") (Number 0 1000000000000) ∷ []))))))
+
+abbrev pub link_keys : List KeyRow
+link_keys = takes (codes "cost") (Number 0 1000000000000) ∷ (needs (codes "from") TypeName ∷ (needs (codes "to") TypeName ∷ []))
+
+-- the keys of a pattern of each kind, in byte order
+abbrev pub kind_keys : Kind → List KeyRow
+kind_keys Count =
+    needs (codes "kind") KindWord
+    ∷ (takes (codes "max") (Number 0 512)
+    ∷ (takes (codes "min") (Number 0 512)
+    ∷ (needs (codes "type") TypeName ∷ [])))
+
+-- the keys of a pattern whose kind isn't one of the texts: those of any kind, of which only `kind` is required
+abbrev pub any_keys : List KeyRow
+any_keys =
+    needs (codes "kind") KindWord ∷ (takes (codes "max") Integer ∷ (takes (codes "min") Integer ∷ (takes (codes "type") Text ∷ [])))
+
+-- the role that a text is, and the kind of pattern
+abbrev pub role_of : List ℕ → Option Role
+role_of text =
+    if bytes_eq text (codes "source") then Some Source
+    else if bytes_eq text (codes "middle") then Some Middle
+    else if bytes_eq text (codes "sink") then Some Sink
+    else None
+
+abbrev pub kind_of : List ℕ → Option Kind
+kind_of text = if bytes_eq text (codes "count") then Some Count else None
+
+-- the kind of a pattern's row
+abbrev pub row_kind : Data → Option Kind
+row_kind row = option_and_then kind_of (text_at (codes "kind") row)
+
+-- the keys of a row of a table
+abbrev pub table_keys : TableName → Data → List KeyRow
+table_keys Library row = library_keys
+table_keys Types row = type_keys
+table_keys Links row = link_keys
+table_keys Patterns row = option_map_or kind_keys (row_kind row) any_keys
+table_keys Requires row = []
+
+-- whether a value is of the kind that is stated for its key: an array, an integer or a text
+abbrev pub fits_meaning : Meaning → Data → Bool
+fits_meaning Rows value = is_some (as_array value)
+fits_meaning (Number low high) value = is_some (as_integer value)
+fits_meaning Integer value = is_some (as_integer value)
+fits_meaning _ value = is_some (as_str value)
+
+-- a lower-case letter, then up to 23 lower-case letters, digits or _
+abbrev pub is_type_name : List ℕ → Bool
+is_type_name text = begins_lower text && (list_all is_name_byte text && nat_le (length text) 24)
+
+-- from low to high
+abbrev pub is_between : ℕ → ℕ → ℤ → Bool
+is_between low high (pos n) = nat_le low n && nat_le n high
+is_between low high (negsuc n) = false
+
+-- whether the value at a key is a text that fails a test, or an integer
+abbrev pub text_fails : (List ℕ → Bool) → List ℕ → Data → Bool
+text_fails test key row = option_map_or (λ text. not (test text)) (text_at key row) false
+
+abbrev pub integer_fails : (ℤ → Bool) → List ℕ → Data → Bool
+integer_fails test key row = option_map_or (λ z. not (test z)) (integer_at key row) false
+
+-- whether a name is one of the types' names
+abbrev pub is_named : List (List ℕ) → List ℕ → Bool
+is_named names text = list_any (bytes_eq text) names
+
+-- a value out of its range: a number, a role or a kind
+abbrev pub is_out_of_range : Meaning → List ℕ → Data → Bool
+is_out_of_range RoleWord key row = text_fails (λ text. is_some (role_of text)) key row
+is_out_of_range KindWord key row = text_fails (λ text. is_some (kind_of text)) key row
+is_out_of_range (Number low high) key row = integer_fails (is_between low high) key row
+is_out_of_range _ key row = false
+
+abbrev pub is_bad_name : Meaning → List ℕ → Data → Bool
+is_bad_name NewName key row = text_fails is_type_name key row
+is_bad_name _ key row = false
+
+abbrev pub is_unknown_name : List (List ℕ) → Meaning → List ℕ → Data → Bool
+is_unknown_name names TypeName key row = text_fails (is_named names) key row
+is_unknown_name names _ key row = false
+
+-- whether a key of a row has a fault of a class, where the types have these names
+abbrev pub is_faulty : List (List ℕ) → LibClass → Data → KeyRow → Bool
+is_faulty names MissingKey row key = key.required && is_none (get key.name row)
+is_faulty names WrongKind row key = option_map_or (λ value. not (fits_meaning key.meaning value)) (get key.name row) false
+is_faulty names BadName row key = is_bad_name key.meaning key.name row
+is_faulty names UnknownName row key = is_unknown_name names key.meaning key.name row
+is_faulty names Range row key = is_out_of_range key.meaning key.name row
+is_faulty names _ row key = false

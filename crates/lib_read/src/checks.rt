@@ -1,0 +1,130 @@
+// Whether one key of a row has a fault.
+ghost use Rattle.std.specs.Prelude.{◌≡◌, is_some, []};
+ghost use Rattle.toml.specs.View.{view};
+ghost use Rattle.lib_read.specs.Schema as spec;
+ghost use Rattle.lib_read.specs.Keys.{key_view};
+ghost use Rattle.std.specs.List.{list_all};
+ghost use Rattle.arch_model.specs.Name as name;
+
+use crate::fault::LibClass;
+use crate::names::Names;
+use crate::schema::{Key, Meaning, kind_of, role_of};
+use crate::values::{integer_at, text_at};
+use toml::Value;
+
+// Whether a value is of the kind that its key wants.
+fn fits_meaning(meaning: Meaning, value: &Value) -> bool
+    ensures { result ≡ spec.fits_meaning meaning (view value.now) }
+{
+    match meaning {
+        Meaning::Rows => value.is_array(),
+        Meaning::Number { .. } | Meaning::Integer => value.is_integer(),
+        _ => value.is_str(),
+    }
+}
+
+// A lower-case letter, then up to 23 lower-case letters, digits or _.
+fn is_type_name(text: &str) -> bool
+    ensures { result ≡ spec.is_type_name text.now }
+{
+    let bytes = text.as_bytes();
+    begins_lower(bytes) && all_name_bytes(bytes) && bytes.len() <= 24
+}
+
+fn all_name_bytes(bytes: &[u8]) -> bool
+    ensures { result ≡ list_all name.is_name_byte bytes.now }
+{
+    bytes.iter().all(|c| is_name_byte(*c))
+}
+
+// A lower-case letter, a digit or _.
+fn is_name_byte(c: u8) -> bool
+    ensures { result ≡ name.is_name_byte c }
+{
+    (97 <= c && c <= 122) || (48 <= c && c <= 57) || c == 95
+}
+
+// Whether the first byte is a lower-case letter.
+fn begins_lower(bytes: &[u8]) -> bool
+    ensures { result ≡ name.begins_lower bytes.now }
+{
+    match bytes.first() {
+        Some(c) => 97 <= *c && *c <= 122,
+        None => false,
+    }
+}
+
+// Whether the key's value is a text that can't name a new type.
+fn is_bad_name(key: &Key, row: &Value) -> bool
+    ensures { result ≡ spec.is_bad_name key.now.meaning key.now.name.now (view row.now) }
+{
+    match (key.meaning, text_at(row, key.name)) {
+        (Meaning::NewName, Some(text)) => !is_type_name(text),
+        _ => false,
+    }
+}
+
+// Whether the key's value is a text that should name a type, and names none.
+fn is_unknown_name(key: &Key, row: &Value, names: &Names) -> bool
+    ensures { result ≡ spec.is_unknown_name names.now key.now.meaning key.now.name.now (view row.now) }
+{
+    match (key.meaning, text_at(row, key.name)) {
+        (Meaning::TypeName, Some(text)) => !names.has(text),
+        _ => false,
+    }
+}
+
+// Whether an integer is from low to high.
+fn is_between(low: u64, high: u64, z: i64) -> bool
+    ensures { result ≡ spec.is_between low high z }
+{
+    match u64::try_from(z) {
+        Ok(n) => low <= n && n <= high,
+        Err(_) => false,
+    }
+}
+
+// Whether the key's value is a text that should be one of some words, or a number, and is out of range.
+fn is_out_of_range(key: &Key, row: &Value) -> bool
+    ensures { result ≡ spec.is_out_of_range key.now.meaning key.now.name.now (view row.now) }
+{
+    match key.meaning {
+        Meaning::RoleWord => match text_at(row, key.name) {
+            Some(text) => role_of(text).is_none(),
+            None => false,
+        },
+        Meaning::KindWord => match text_at(row, key.name) {
+            Some(text) => kind_of(text).is_none(),
+            None => false,
+        },
+        Meaning::Number { low, high } => match integer_at(row, key.name) {
+            Some(z) => !is_between(low, high, z),
+            None => false,
+        },
+        _ => false,
+    }
+}
+
+// Whether the key's value is there and of another kind than the key wants.
+fn is_wrong_kind(key: &Key, row: &Value) -> bool
+    ensures { result ≡ spec.is_faulty [] LibClass.WrongKind (view row.now) (key_view key.now) }
+{
+    match row.get(key.name) {
+        Some(value) => !fits_meaning(key.meaning, value),
+        None => false,
+    }
+}
+
+// Whether a key of a row has a fault of a class.
+pub(crate) fn is_faulty(class: LibClass, key: &Key, row: &Value, names: &Names) -> bool
+    ensures { result ≡ spec.is_faulty names.now class (view row.now) (key_view key.now) }
+{
+    match class {
+        LibClass::MissingKey => key.required && row.get(key.name).is_none(),
+        LibClass::WrongKind => is_wrong_kind(key, row),
+        LibClass::BadName => is_bad_name(key, row),
+        LibClass::UnknownName => is_unknown_name(key, row, names),
+        LibClass::Range => is_out_of_range(key, row),
+        _ => false,
+    }
+}

@@ -1,0 +1,156 @@
+// The rows of a document without a fault.
+ghost use Rattle.std.specs.Prelude.{◌≡◌, ◌≤◌, length, IfOk};
+ghost use Rattle.std.specs.List.{All};
+ghost use Rattle.toml.specs.View.{view};
+ghost use Rattle.arch_model.specs.Library.{IsTypeRow};
+ghost use Rattle.lib_read.specs.Rows as rows;
+ghost use Rattle.lib_read.specs.Tree as tree;
+
+use crate::fault::TableName;
+use crate::names::Names;
+use crate::schema::{Kind, role_of, row_kind};
+use crate::values::{integer_at, rows_of, text_at};
+use arch_model::{LinkRow, Memory, Name, Pattern, Role, TypeRow};
+use std::alloc::Global;
+use toml::Value;
+
+// The number at a key.
+fn number_at(row: &Value, key: &str) -> Option<u64>
+    ensures { result ≡ rows.number_at key.now (view row.now) }
+{
+    match integer_at(row, key) {
+        Some(z) => Some(u64::try_from(z).unwrap_or(0)),
+        None => None,
+    }
+}
+
+// The number at a key, and the one that stands for an absent one.
+fn number_or(absent: u64, row: &Value, key: &str) -> u64
+    ensures { result ≡ rows.number_or absent key.now (view row.now) }
+{
+    number_at(row, key).unwrap_or(absent)
+}
+
+// The role of a type's row.
+fn role(row: &Value) -> Role
+    ensures { result ≡ (rows.type_row (view row.now)).role }
+{
+    match text_at(row, "role") {
+        Some(text) => role_of(text).unwrap_or(Role::Middle),
+        None => Role::Middle,
+    }
+}
+
+fn type_row(row: &Value) -> TypeRow
+    requires { IsTypeRow (rows.type_row (view row.now)) }
+    ensures { result ≡ rows.type_row (view row.now) }
+{
+    TypeRow {
+        name: Name::new(text_at(row, "name").unwrap_or("")),
+        role: role(row),
+        max: number_or(1, row, "max") as u32,
+        cost: number_or(0, row, "cost"),
+        supply: number_or(0, row, "supply"),
+        demand: number_or(0, row, "demand"),
+        fail: number_or(0, row, "fail") as u32,
+    }
+}
+
+// The types of a document.
+pub(crate) fn type_rows(alloc: Global, top: &Value) -> Result<Vec<TypeRow>, Memory>
+    requires { All IsTypeRow (rows.types_of (view top.now)) }
+    ensures { IfOk result (λ types. types.items ≡ rows.types_of (view top.now)) }
+{
+    let mut types = Vec::new(alloc);
+    let rows = rows_of(top, TableName::Types);
+    for row in rows {
+        types.push(type_row(row))?;
+    }
+    Ok(types)
+}
+
+// The number of the type that the text at a key names.
+fn type_at(row: &Value, key: &str, names: &Names) -> u32
+    requires { length names.now ≤ 64 }
+    ensures { result ≡ rows.type_at names.now key.now (view row.now) }
+{
+    match text_at(row, key) {
+        Some(text) => match names.number(text) {
+            Some(i) => i as u32,
+            None => 0,
+        },
+        None => 0,
+    }
+}
+
+fn link_row(row: &Value, names: &Names) -> LinkRow
+    requires { length names.now ≤ 64 }
+    ensures { result ≡ rows.link_row names.now (view row.now) }
+{
+    LinkRow {
+        from: type_at(row, "from", names),
+        to: type_at(row, "to", names),
+        cost: number_or(0, row, "cost"),
+        fail: 0,
+    }
+}
+
+// The links of a document, whose types have these names.
+pub(crate) fn link_rows(alloc: Global, top: &Value, names: &Names) -> Result<Vec<LinkRow>, Memory>
+    requires { length names.now ≤ 64 }
+    ensures { IfOk result (λ links. links.items ≡ rows.links_by names.now (view top.now)) }
+{
+    let mut links = Vec::new(alloc);
+    let rows = rows_of(top, TableName::Links);
+    for row in rows {
+        links.push(link_row(row, names))?;
+    }
+    Ok(links)
+}
+
+// A pattern of the kind `count`.
+fn count_row(row: &Value, names: &Names) -> Pattern
+    requires names { length names.now ≤ 64 }
+    requires fits { rows.KindFits (view row.now) Kind.Count }
+    ensures { result ≡ rows.kind_row names.now (view row.now) Kind.Count }
+{
+    Pattern::Count {
+        of: type_at(row, "type", names),
+        min: number_or(0, row, "min") as u32,
+        max: match number_at(row, "max") {
+            Some(max) => Some(max as u32),
+            None => None,
+        },
+    }
+}
+
+fn pattern_row(row: &Value, names: &Names) -> Option<Pattern>
+    requires names { length names.now ≤ 64 }
+    requires fits { rows.PatternFits (view row.now) }
+    ensures { result ≡ rows.pattern_row names.now (view row.now) }
+{
+    match row_kind(row) {
+        Some(Kind::Count) => Some(count_row(row, names)),
+        None => None,
+    }
+}
+
+// The patterns of a document, whose types have these names.
+pub(crate) fn pattern_rows(
+    alloc: Global,
+    top: &Value,
+    names: &Names,
+) -> Result<Vec<Pattern>, Memory>
+    requires names { length names.now ≤ 64 }
+    requires fit { All rows.PatternFits (tree.rows_of TableName.Patterns (view top.now)) }
+    ensures { IfOk result (λ patterns. patterns.items ≡ rows.patterns_by names.now (view top.now)) }
+{
+    let mut patterns = Vec::new(alloc);
+    let rows = rows_of(top, TableName::Patterns);
+    for row in rows {
+        if let Some(pattern) = pattern_row(row, names) {
+            patterns.push(pattern)?;
+        }
+    }
+    Ok(patterns)
+}

@@ -1,0 +1,236 @@
+// The keys of each table, with what is expected of their values.
+ghost use Rattle.std.specs.Prelude.{◌≡◌, map};
+ghost use Rattle.toml.specs.View.{view};
+ghost use Rattle.lib_read.specs.Schema as spec;
+ghost use Rattle.lib_read.specs.Keys.{key_view};
+
+use crate::fault::TableName;
+use crate::values::text_at;
+use arch_model::Role;
+use toml::Value;
+
+/// What the value of a key means.
+#[derive(Clone, Copy)]
+pub(crate) enum Meaning {
+    /// An array of rows.
+    Rows,
+    /// The name that a type gets.
+    NewName,
+    /// One of the words for a role.
+    RoleWord,
+    /// One of the words for a kind of pattern.
+    KindWord,
+    /// The name of a type.
+    TypeName,
+    /// An integer from `low` to `high`.
+    Number { low: u64, high: u64 },
+    /// Any text, and any integer.
+    Text,
+    Integer,
+}
+
+/// A kind of pattern.
+#[derive(Clone, Copy)]
+pub(crate) enum Kind {
+    Count,
+}
+
+/// A key of a table.
+#[derive(Clone, Copy)]
+pub(crate) struct Key {
+    pub(crate) name: &'static str,
+    pub(crate) required: bool,
+    pub(crate) meaning: Meaning,
+}
+
+const COST: Meaning = Meaning::Number {
+    low: 0,
+    high: 1_000_000_000_000,
+};
+
+const DEGREE: Meaning = Meaning::Number { low: 0, high: 512 };
+
+static LIBRARY_KEYS: [Key; 3] = [
+    Key {
+        name: "link",
+        required: false,
+        meaning: Meaning::Rows,
+    },
+    Key {
+        name: "pattern",
+        required: false,
+        meaning: Meaning::Rows,
+    },
+    Key {
+        name: "type",
+        required: false,
+        meaning: Meaning::Rows,
+    },
+];
+
+static TYPE_KEYS: [Key; 7] = [
+    Key {
+        name: "cost",
+        required: false,
+        meaning: COST,
+    },
+    Key {
+        name: "demand",
+        required: false,
+        meaning: COST,
+    },
+    Key {
+        name: "fail",
+        required: false,
+        meaning: Meaning::Number {
+            low: 0,
+            high: 1_000_000,
+        },
+    },
+    Key {
+        name: "max",
+        required: false,
+        meaning: Meaning::Number { low: 1, high: 64 },
+    },
+    Key {
+        name: "name",
+        required: true,
+        meaning: Meaning::NewName,
+    },
+    Key {
+        name: "role",
+        required: true,
+        meaning: Meaning::RoleWord,
+    },
+    Key {
+        name: "supply",
+        required: false,
+        meaning: COST,
+    },
+];
+
+static LINK_KEYS: [Key; 3] = [
+    Key {
+        name: "cost",
+        required: false,
+        meaning: COST,
+    },
+    Key {
+        name: "from",
+        required: true,
+        meaning: Meaning::TypeName,
+    },
+    Key {
+        name: "to",
+        required: true,
+        meaning: Meaning::TypeName,
+    },
+];
+
+static COUNT_KEYS: [Key; 4] = [
+    Key {
+        name: "kind",
+        required: true,
+        meaning: Meaning::KindWord,
+    },
+    Key {
+        name: "max",
+        required: false,
+        meaning: DEGREE,
+    },
+    Key {
+        name: "min",
+        required: false,
+        meaning: DEGREE,
+    },
+    Key {
+        name: "type",
+        required: true,
+        meaning: Meaning::TypeName,
+    },
+];
+
+// The keys of a pattern whose kind isn't one of the words.
+static ANY_KEYS: [Key; 4] = [
+    Key {
+        name: "kind",
+        required: true,
+        meaning: Meaning::KindWord,
+    },
+    Key {
+        name: "max",
+        required: false,
+        meaning: Meaning::Integer,
+    },
+    Key {
+        name: "min",
+        required: false,
+        meaning: Meaning::Integer,
+    },
+    Key {
+        name: "type",
+        required: false,
+        meaning: Meaning::Text,
+    },
+];
+
+// The role that a text is.
+pub(crate) fn role_of(text: &str) -> Option<Role>
+    ensures { result ≡ spec.role_of text.now }
+{
+    if text == "source" {
+        Some(Role::Source)
+    } else if text == "middle" {
+        Some(Role::Middle)
+    } else if text == "sink" {
+        Some(Role::Sink)
+    } else {
+        None
+    }
+}
+
+// The kind of pattern that a text is.
+pub(crate) fn kind_of(text: &str) -> Option<Kind>
+    ensures { result ≡ spec.kind_of text.now }
+{
+    if text == "count" {
+        Some(Kind::Count)
+    } else {
+        None
+    }
+}
+
+// The kind of a pattern's row.
+pub(crate) fn row_kind(row: &Value) -> Option<Kind>
+    ensures { result ≡ spec.row_kind (view row.now) }
+{
+    match text_at(row, "kind") {
+        Some(text) => kind_of(text),
+        None => None,
+    }
+}
+
+// The keys of a pattern of a kind.
+fn kind_keys(kind: Kind) -> &'static [Key]
+    ensures { map key_view result.now ≡ spec.kind_keys kind }
+{
+    match kind {
+        Kind::Count => &COUNT_KEYS,
+    }
+}
+
+// The keys of a row of a table.
+pub(crate) fn table_keys(table: TableName, row: &Value) -> &'static [Key]
+    ensures { map key_view result.now ≡ spec.table_keys table (view row.now) }
+{
+    match table {
+        TableName::Library => &LIBRARY_KEYS,
+        TableName::Types => &TYPE_KEYS,
+        TableName::Links => &LINK_KEYS,
+        TableName::Patterns => match row_kind(row) {
+            Some(kind) => kind_keys(kind),
+            None => &ANY_KEYS,
+        },
+        TableName::Requires => &[],
+    }
+}
