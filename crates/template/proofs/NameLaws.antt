@@ -20,7 +20,7 @@ use Rattle.arch_model.specs.Template.{instances_of_type}
 use Rattle.arch_model.proofs.Ranges.{blank_component}
 use Rattle.template.specs.Names.{type_name, component_name}
 
-abbrev instance_at : ℕ → TypeRow → ℕ → Component
+abbrev pub instance_at : ℕ → TypeRow → ℕ → Component
 instance_at t row i = record { of = t; index = i; role = row.role; cost = row.cost; supply = row.supply; demand = row.demand; fail = row.fail }
 
 -- a fact of each instance of each type

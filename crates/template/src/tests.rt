@@ -70,7 +70,11 @@ fn types_come_in_order_and_edges_by_link_tail_and_head(rt: HostRuntime) -> Resul
         assert_eq!(rt; component.of, place.0);
         assert_eq!(rt; component.index, place.1);
     }
-    expect_edges(&rt, &template, &[(0, 2), (0, 3), (1, 2), (1, 3), (2, 4), (3, 4)]);
+    expect_edges(
+        &rt,
+        &template,
+        &[(0, 2), (0, 3), (1, 2), (1, 3), (2, 4), (3, 4)],
+    );
     Ok(())
 }
 
@@ -79,7 +83,11 @@ fn no_component_is_linked_to_itself(rt: HostRuntime) -> Result<(), Fail> {
     let types = [row("node", 3)];
     assert!(rt; has_few_components(&types));
     let template = expand(rt.alloc(), &types, &[link(0, 0)])?;
-    expect_edges(&rt, &template, &[(0, 1), (0, 2), (1, 0), (1, 2), (2, 0), (2, 1)]);
+    expect_edges(
+        &rt,
+        &template,
+        &[(0, 1), (0, 2), (1, 0), (1, 2), (2, 0), (2, 1)],
+    );
     Ok(())
 }
 
@@ -136,7 +144,9 @@ fn a_name_is_its_types_name_a_dot_and_an_index_from_1(rt: HostRuntime) -> Result
     push_name(&mut line, &lib, CompId(13))?;
     assert_eq!(rt; line.as_str(), "component bus.12");
     assert_eq!(rt; find_component(&lib, "bus.12"), Some(CompId(13)));
-    for name in ["gen.0", "gen.3", "gen", "gen.", "gen.01", "gen.+1", "bus.012", "bus.1.", "us.1"] {
+    for name in [
+        "gen.0", "gen.3", "gen", "gen.", "gen.01", "gen.+1", "bus.012", "bus.1.", "us.1",
+    ] {
         assert_eq!(rt; find_component(&lib, name), None, "{name}");
     }
     Ok(())

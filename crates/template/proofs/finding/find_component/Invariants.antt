@@ -1,4 +1,4 @@
-use Rattle.std.proofs.Common.{ℕ, ◌≡◌, ◌≢◌, ◌<◌}
+use Rattle.std.proofs.Common.{ℕ, ◌≢◌, ◌<◌}
 use Rattle.template.specs.Names.{component_name}
 use Rattle.template.proofs.finding.find_component.Given as goal
 
