@@ -1,0 +1,6 @@
+use Rattle.std.proofs.Common.{◌-◌}
+use Rattle.arch_model.specs.Member.{member_count}
+use Rattle.archex_app.proofs.search.+search.Given as goal
+
+abbrev pub decreases-search : goal.decreases-search
+decreases-search l = member_count l.lib.now - l.next

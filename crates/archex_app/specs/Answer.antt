@@ -1,0 +1,60 @@
+-- What a run answers: which bytes it read, which text it printed, and what that says.
+use Rattle.std.specs.Prelude.{◌≡◌, ℕ, Option, List, ◌++◌, ◌⊎◌, Ok, IsErr, IfSome}
+use Rattle.arch_model.specs.Parts.{LibraryParts, ArchitectureParts}
+use Rattle.outside.specs.Faults.{Rose}
+use Rattle.outside.specs.Told.{Appends}
+use Rattle.lib_read.specs.LibraryOf.{library_of}
+use Rattle.archex_app.specs.Words.{AskToSolve, AreRefused}
+use Rattle.archex_app.specs.Cheapest.{MeetsPatterns, IsCheapest}
+use Rattle.archex_app.specs.Report.{optimal_text, infeasible_text, refused_library_text, refused_words_text}
+
+-- the bytes are a library, and the text is the report of an architecture that meets its patterns at least cost
+pub record ShowsCheapest (bytes text : List ℕ) : Type 0 where
+  pub lib : LibraryParts
+  pub read : library_of bytes ≡ Ok lib
+  pub arch : ArchitectureParts
+  pub cheapest : IsCheapest lib arch
+  pub report : text ≡ optimal_text lib arch
+
+-- the bytes are a library, none of whose architectures meets its patterns
+pub record ShowsInfeasible (bytes text : List ℕ) : Type 0 where
+  pub lib : LibraryParts
+  pub read : library_of bytes ≡ Ok lib
+  pub none : (arch : ArchitectureParts) → MeetsPatterns lib arch → ⊥
+  pub report : text ≡ infeasible_text
+
+-- the bytes are no library
+pub record ShowsRefusal (bytes text : List ℕ) : Type 0 where
+  pub refused : IsErr (library_of bytes)
+  pub report : text ≡ refused_library_text
+
+-- a text that shows one of the three
+abbrev pub ShowsAnswer : List ℕ → List ℕ → Type 0
+ShowsAnswer bytes text = ShowsCheapest bytes text ⊎ (ShowsInfeasible bytes text ⊎ ShowsRefusal bytes text)
+
+-- the text that is due shows a fact of the bytes of the library that the words name: those that the shelf tells, or where it tells none, some that were read
+pub record IsDue (Shows : List ℕ → List ℕ → Type 0) (words : List (List ℕ)) (told : List ℕ → Option (List ℕ)) (text : List ℕ) : Type 0 where
+  pub name : List ℕ
+  pub asked : AskToSolve words name
+  pub bytes : List ℕ
+  pub read : IfSome (told name) (λ all. bytes ≡ all)
+  pub shows : Shows bytes text
+
+-- that text was printed, whole
+pub record Prints (Shows : List ℕ → List ℕ → Type 0) (words : List (List ℕ)) (told : List ℕ → Option (List ℕ)) (before now : Option (List ℕ)) : Type 0 where
+  pub text : List ℕ
+  pub due : IsDue Shows words told text
+  pub printed : Appends before now text
+
+-- the front of a text that is due was printed: of the refusal of the words, or of an answer
+pub record PrintsFront (words : List (List ℕ)) (told : List ℕ → Option (List ℕ)) (before now : Option (List ℕ)) : Type 0 where
+  pub front : List ℕ
+  pub rest : List ℕ
+  pub due : (AreRefused words × (front ++ rest ≡ refused_words_text)) ⊎ IsDue ShowsAnswer words told (front ++ rest)
+  pub printed : Appends before now front
+
+-- a read of the library that the words name failed in this run
+pub record ReadFailed (words : List (List ℕ)) (before now : List ℕ → ℕ) : Type 0 where
+  pub name : List ℕ
+  pub asked : AskToSolve words name
+  pub rose : Rose (before name) (now name)

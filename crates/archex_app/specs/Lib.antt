@@ -1,0 +1,9 @@
+pub mod Words
+pub mod Cheapest
+pub mod Report
+pub mod Answer
+pub mod Outcome
+pub mod Status
+pub mod Complete
+pub mod Search
+pub mod Reading

@@ -1,0 +1,31 @@
+//! The top call of the program: from words and a library file to a printed report.
+//!
+//! `run_plain` reads a library from a shelf, searches for an architecture of least cost among all that meet its
+//! patterns, and prints a report to a sink. Its contract is the promise of the whole program, over bytes in and bytes
+//! out: what each status says of the library's bytes and of all its architectures, which fault is the cause of each
+//! status that isn't an answer, and which status always comes where nothing outside failed.
+//!
+//! The search is a plain recursion over the components, then the edges, that drops a branch whose chosen parts cost as
+//! much as the best architecture already known. It takes no memory, and looks at up to 2^v architectures of v
+//! components and edges.
+//!
+//! Stands on `lib_read` for the library, `patterns` for the patterns, `template` for names, `outside` for the shelf and
+//! the sink, and on nothing of the system.
+#![tactic(auto)]
+
+mod printing;
+mod reading;
+mod report;
+mod run;
+mod search;
+mod solve;
+mod status;
+mod sure;
+mod words;
+
+pub use run::run_plain;
+pub use status::Status;
+pub use sure::run_surely;
+
+#[cfg(test)]
+mod tests;

@@ -1,0 +1,26 @@
+// The top call where nothing outside can fail.
+ghost use Rattle.std.specs.Prelude.{◌≡◌, ℕ, List, Some};
+ghost use Rattle.outside.specs.Sure.{sure_told};
+ghost use Rattle.archex_app.specs.Words.{texts, AskToSolve, AreRefused};
+ghost use Rattle.archex_app.specs.Complete.{Completes};
+
+use crate::run::run_plain;
+use crate::status::Status;
+use outside::{SureShelf, SureSink};
+use std::alloc::Global;
+
+/// `run_plain` over a shelf and a sink whose calls never fail. What always comes needs no premise on counts here:
+/// refused words are answered as such, and a library that the shelf tells is solved or refused, unless there was no
+/// memory.
+pub fn run_surely(
+    alloc: Global,
+    words: &[String],
+    shelf: &mut SureShelf,
+    out: &mut SureSink,
+) -> Status
+    ensures words_first { AreRefused (texts words.now) → result ≡ Status.REFUSED_WORDS }
+    ensures complete { (name bytes : List ℕ) → AskToSolve (texts words.now) name → sure_told shelf.old name
+        ≡ Some bytes → Completes bytes result }
+{
+    run_plain(alloc, words, shelf, out)
+}

@@ -1,0 +1,253 @@
+use crate::{Status, run_plain, run_surely};
+use outside::{Failed, MemShelf, MemSink, Shelf, Sink, SureShelf, SureSink};
+use std::alloc::{AllocError, Global};
+use std::test::Fail;
+
+const X: &[u8] = b"type = [{name = \"x\", role = \"middle\", cost = 7}]
+pattern = [{kind = \"count\", type = \"x\", min = 1}]
+";
+
+const X_REPORT: &[u8] = b"status optimal\ncost 7\nkind,from,to\ncomponent,x.1,\n";
+
+// The words, each as a text of its own.
+fn words_of(alloc: Global, words: &[&str]) -> Result<Vec<String>, AllocError> {
+    let mut all = Vec::new(alloc);
+    for word in words {
+        all.push(word.to_string(alloc)?)?;
+    }
+    Ok(all)
+}
+
+// What a run of some words over a library printed, and its status, with these calls failing.
+fn run_on(
+    alloc: Global,
+    words: &[&str],
+    library: &[u8],
+    failing_calls: &[u64],
+    failing_writes: &[u64],
+) -> Result<(Status, Vec<u8>), AllocError> {
+    let words = words_of(alloc, words)?;
+    let mut shelf = MemShelf::new(alloc, 0, failing_calls)?;
+    shelf.put("x.toml", library)?;
+    let mut sink = MemSink::new(alloc, 4096, failing_writes)?;
+    let status = run_plain(alloc, words.as_slice(), &mut shelf, &mut sink);
+    let printed = sink.bytes().to_vec(alloc)?;
+    Ok((status, printed))
+}
+
+// Libraries with the status and the text that are due: no component, one that is required, two of which three are
+// required, and two refusals.
+#[test]
+fn libraries_are_solved_or_refused(rt: HostRuntime) -> Result<(), Fail> {
+    let too_few = b"type = [{name = \"p\", role = \"source\", max = 2, cost = 3}]
+pattern = [{kind = \"count\", type = \"p\", min = 3}]
+";
+    let required = b"type = [{name = \"x\", role = \"middle\", cost = 7}]
+pattern = [{kind = \"count\", type = \"x\", min = 1}]
+require = [{sink = \"x.1\", bound = 0}]
+";
+    let rows: [(&[u8], Status, &[u8]); 5] = [
+        (
+            b"",
+            Status::OPTIMAL,
+            b"status optimal\ncost 0\nkind,from,to\n",
+        ),
+        (X, Status::OPTIMAL, X_REPORT),
+        (too_few, Status::INFEASIBLE, b"status infeasible\n"),
+        (required, Status::REFUSED_LIBRARY, b"refused library\n"),
+        (b"\xff", Status::REFUSED_LIBRARY, b"refused library\n"),
+    ];
+    for (library, status, text) in rows {
+        let (ended, printed) = run_on(rt.alloc(), &["solve", "x.toml"], library, &[], &[])?;
+        assert_eq!(rt; ended, status);
+        assert_eq!(rt; printed.as_slice(), text);
+    }
+    Ok(())
+}
+
+// Where several architectures are cheapest, any of them may be printed. No edge is forced here: one of two equal
+// sources; a source and a sink with a permitted link, none of them required; one instance each of three types.
+#[test]
+fn one_of_the_cheapest_is_printed(rt: HostRuntime) -> Result<(), Fail> {
+    let pair = b"type = [{name = \"p\", role = \"source\", max = 2, cost = 3}]
+pattern = [{kind = \"count\", type = \"p\", min = 1}]
+";
+    let link = b"type = [
+  {name = \"s\", role = \"source\", cost = 1, fail = 1000},
+  {name = \"t\", role = \"sink\"},
+]
+link = [{from = \"s\", to = \"t\"}]
+";
+    let chain = b"type = [
+  {name = \"gen\", role = \"source\", max = 2, cost = 100, fail = 1000},
+  {name = \"bus\", role = \"middle\", max = 2, cost = 20, fail = 100},
+  {name = \"load\", role = \"sink\"},
+]
+link = [
+  {from = \"gen\", to = \"bus\", cost = 5},
+  {from = \"bus\", to = \"load\", cost = 5},
+]
+pattern = [
+  {kind = \"count\", type = \"gen\", min = 1},
+  {kind = \"count\", type = \"bus\", min = 1},
+  {kind = \"count\", type = \"load\", min = 1},
+]
+";
+    let rows: [(&[u8], &[u8], &[&[u8]]); 3] = [
+        (pair, b"3", &[b"component,p.1,\n", b"component,p.2,\n"]),
+        (link, b"0", &[b""]),
+        (
+            chain,
+            b"120",
+            &[
+                b"component,gen.1,\ncomponent,bus.1,\ncomponent,load.1,\n",
+                b"component,gen.1,\ncomponent,bus.2,\ncomponent,load.1,\n",
+                b"component,gen.2,\ncomponent,bus.1,\ncomponent,load.1,\n",
+                b"component,gen.2,\ncomponent,bus.2,\ncomponent,load.1,\n",
+            ],
+        ),
+    ];
+    for (library, cost, choices) in rows {
+        let (ended, printed) = run_on(rt.alloc(), &["solve", "x.toml"], library, &[], &[])?;
+        assert_eq!(rt; ended, Status::OPTIMAL);
+        let mut found = false;
+        for choice in choices {
+            let mut text = b"status optimal\ncost ".to_vec(rt.alloc())?;
+            text.extend_from_slice(cost)?;
+            text.extend_from_slice(b"\nkind,from,to\n")?;
+            text.extend_from_slice(choice)?;
+            found = found || printed.as_slice() == text.as_slice();
+        }
+        assert!(rt; found);
+    }
+    Ok(())
+}
+
+// A file of one byte more than a library may have is refused, and so is a longer one.
+#[test]
+fn too_large_a_file_is_refused(rt: HostRuntime) -> Result<(), Fail> {
+    for size in [1048577, 1048600] {
+        let library = vec![in rt.alloc(); b'#'; size]?;
+        let words = &["solve", "x.toml"];
+        let (ended, printed) = run_on(rt.alloc(), words, library.as_slice(), &[], &[])?;
+        assert_eq!(rt; ended, Status::REFUSED_LIBRARY);
+        assert_eq!(rt; printed.as_slice(), b"refused library\n".as_slice());
+    }
+    Ok(())
+}
+
+// Words other than `solve` and one word that isn't empty are refused, whatever the shelf has.
+#[test]
+fn other_words_are_refused(rt: HostRuntime) -> Result<(), Fail> {
+    let rows: [&[&str]; 7] = [
+        &[],
+        &["solve"],
+        &["solve", ""],
+        &["solve", "x.toml", "x.log"],
+        &["Solve", "x.toml"],
+        &["", "x.toml"],
+        &["--help"],
+    ];
+    for words in rows {
+        let (ended, printed) = run_on(rt.alloc(), words, X, &[], &[])?;
+        assert_eq!(rt; ended, Status::REFUSED_WORDS);
+        assert_eq!(rt; printed.as_slice(), b"refused words\n".as_slice());
+    }
+    Ok(())
+}
+
+// Each call of the shelf failing in turn ends the run with a read fault and nothing printed, until none is left to
+// fail: two reads, of the bytes and of the end. A name that wasn't put is a fault as well.
+#[test]
+fn each_failing_read_ends_the_run(rt: HostRuntime) -> Result<(), Fail> {
+    for call in 0..3 {
+        let (ended, printed) = run_on(rt.alloc(), &["solve", "x.toml"], X, &[call], &[])?;
+        if call < 2 {
+            assert_eq!(rt; ended, Status::READ_FAULT);
+            assert_eq!(rt; printed.len(), 0);
+        } else {
+            assert_eq!(rt; ended, Status::OPTIMAL);
+            assert_eq!(rt; printed.as_slice(), X_REPORT);
+        }
+    }
+    let (ended, printed) = run_on(rt.alloc(), &["solve", "y.toml"], X, &[], &[])?;
+    assert_eq!(rt; ended, Status::READ_FAULT);
+    assert_eq!(rt; printed.len(), 0);
+    Ok(())
+}
+
+// A shelf and a sink that move one byte a call.
+#[derive(Drop)]
+struct Slow<T> {
+    inner: T,
+}
+
+impl<F: Shelf> Shelf for Slow<F> {
+    ghost told = { λ s name. F.told s.inner name };
+
+    ghost read_faults = { λ s name. F.read_faults s.inner name };
+
+    ghost write_faults = { λ s name. F.write_faults s.inner name };
+
+    fn read_at(&mut self, name: &str, place: u64, into: &mut [u8]) -> Result<usize, Failed> {
+        let end = into.len().min(1);
+        self.inner.read_at(name, place, &mut into[..end])
+    }
+
+    fn fresh(&mut self, name: &str) -> Result<(), Failed> {
+        self.inner.fresh(name)
+    }
+
+    fn append(&mut self, name: &str, piece: &[u8]) -> Result<usize, Failed> {
+        self.inner.append(name, &piece[..1])
+    }
+}
+
+impl<O: Sink> Sink for Slow<O> {
+    ghost told = { λ s. O.told s.inner };
+
+    ghost faults = { λ s. O.faults s.inner };
+
+    fn write(&mut self, piece: &[u8]) -> Result<usize, Failed> {
+        self.inner.write(&piece[..1])
+    }
+}
+
+// Byte by byte the same is read and printed. Each write failing in turn leaves what was written before it.
+#[test]
+fn each_failing_write_cuts_the_report(rt: HostRuntime) -> Result<(), Fail> {
+    let alloc = rt.alloc();
+    let words = words_of(alloc, &["solve", "x.toml"])?;
+    let whole = X_REPORT.len();
+    for call in 0..=whole {
+        let mut shelf = Slow {
+            inner: MemShelf::new(alloc, 0, &[])?,
+        };
+        shelf.inner.put("x.toml", X)?;
+        let mut sink = Slow {
+            inner: MemSink::new(alloc, 4096, &[call as u64])?,
+        };
+        let status = run_plain(alloc, words.as_slice(), &mut shelf, &mut sink);
+        let wanted = if call < whole {
+            Status::WRITE_FAULT
+        } else {
+            Status::OPTIMAL
+        };
+        assert_eq!(rt; status, wanted);
+        assert_eq!(rt; sink.inner.bytes(), &X_REPORT[..call]);
+    }
+    Ok(())
+}
+
+#[test]
+fn nothing_fails_where_nothing_can(rt: HostRuntime) -> Result<(), Fail> {
+    let alloc = rt.alloc();
+    let mut shelf = SureShelf::new(alloc);
+    shelf.put("x.toml", X)?;
+    let words = words_of(alloc, &["solve", "x.toml"])?;
+    let status = run_surely(alloc, words.as_slice(), &mut shelf, &mut SureSink);
+    assert_eq!(rt; status, Status::OPTIMAL);
+    let status = run_surely(alloc, &[], &mut shelf, &mut SureSink);
+    assert_eq!(rt; status, Status::REFUSED_WORDS);
+    Ok(())
+}
