@@ -24,10 +24,11 @@ after_failed_write c = record { reads = c.reads; writes = one_more c.writes }
 abbrev pub counts_of : FaultCounts → List ℕ → Counts
 counts_of c name = unwrap_or (item_of name c.named) c.others
 
--- how many reads and writes of a name failed
+-- how many reads of a name failed
 abbrev pub reads_of : FaultCounts → List ℕ → ℕ
 reads_of c name = (counts_of c name).reads
 
+-- how many writes of a name failed
 abbrev pub writes_of : FaultCounts → List ℕ → ℕ
 writes_of c name = (counts_of c name).writes
 

@@ -66,13 +66,15 @@ append_passes s name piece = passes s.failing && unwrap_or (option_map (λ f. ha
 abbrev pub after_change : (KeptFile → KeptFile) → Kept → List ℕ → Kept
 after_change change s name = record s { files = changed_at name change s.files; failing = after_call s.failing }
 
--- a file whose counts were changed, or its bytes
+-- a file with other counts
 abbrev pub with_counts : (Counts → Counts) → KeptFile → KeptFile
 with_counts change f = record { bytes = f.bytes; room = f.room; counts = change f.counts }
 
+-- a file with other bytes
 abbrev pub with_bytes : List ℕ → KeptFile → KeptFile
 with_bytes bytes f = record { bytes = bytes; room = f.room; counts = f.counts }
 
+-- a file with a piece added at its end
 abbrev pub with_piece : List ℕ → KeptFile → KeptFile
 with_piece piece f = record { bytes = f.bytes ++ piece; room = f.room; counts = f.counts }
 
@@ -83,12 +85,14 @@ after_fault change s name =
     (after_change (with_counts change) s name)
     (record s { others = change s.others; failing = after_call s.failing })
 
--- the shelf after each of the three calls
+-- the shelf after a read of a name
 abbrev pub after_read : Kept → List ℕ → Kept
 after_read s name = cond (call_passes s name) (record s { failing = after_call s.failing }) (after_fault after_failed_read s name)
 
+-- the shelf after a name was made fresh, or wasn't
 abbrev pub after_fresh : Kept → List ℕ → Kept
 after_fresh s name = cond (call_passes s name) (after_change (with_bytes []) s name) (after_fault after_failed_write s name)
 
+-- the shelf after an append to a name: the whole piece was added, or nothing
 abbrev pub after_append : Kept → List ℕ → List ℕ → Kept
 after_append s name piece = cond (append_passes s name piece) (after_change (with_piece piece) s name) (after_fault after_failed_write s name)

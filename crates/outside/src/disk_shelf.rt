@@ -2,7 +2,7 @@
 ghost use Rattle.std.specs.Prelude.{◌≡◌, ◌≢◌, ℕ, ◌<◌, ◌≤◌, List, [], length, map, take, string_bytes, IfSome, IfOk, OnOk, OnErr, MatchResult};
 ghost use Rattle.outside.specs.Faults.{Rose, NeverFall};
 ghost use Rattle.outside.specs.Told.{Finds, Appends, untold};
-ghost use Rattle.outside.specs.Counts.{no_faults, counts_of, counts_after, after_failed_read, after_failed_write, reads_of, writes_of};
+ghost use Rattle.outside.specs.Counts.{no_faults, counts_after, after_failed_read, after_failed_write, reads_of, writes_of};
 
 use crate::fault_counts::FaultCounts;
 use crate::faults::{Failed, Memory};
@@ -14,8 +14,8 @@ use std::marker::Model;
 use std::rt::Files;
 use std::{fs, io};
 
-/// Real files, by their paths. Nothing is told of their bytes. Each call opens its file anew, and each that fails
-/// raises a count of its name.
+/// Real files, by their paths. Nothing is told of their bytes. Each call opens its file anew, and
+/// each that fails raises a count of its name.
 #[derive(Drop)]
 pub struct DiskShelf<'a, R> {
     rt: &'a R,
@@ -50,7 +50,8 @@ fn write_to<R: Files>(rt: &R, name: &str, piece: &[u8]) -> io::Result<usize>
 }
 
 impl<'a, R: Files> DiskShelf<'a, R> {
-    /// A shelf over the real files, with two counts of faults for each of `names`, and two for all other names.
+    /// A shelf over the real files, with two counts of faults for each of `names`, and two for all
+    /// other names.
     pub fn new(rt: &'a R, alloc: Global, names: &[String]) -> Result<DiskShelf<'a, R>, Memory>
         ensures { IfOk result (λ s. s ≡ no_faults (map string_bytes names.now)) }
     {

@@ -1,49 +1,29 @@
-//! What follows from the clauses of shelves and sinks alone.
-ghost use Rattle.std.specs.Prelude.{◌≡◌, ℕ, ◌<◌, true, List, length};
+//! What follows from the clauses of shelves and sinks alone: no count of a shelf or sink that
+//! never fails can rise, so whoever knows that an answer comes only where a count rose knows that
+//! it doesn't come there.
+ghost use Rattle.std.specs.Prelude.{ℕ, List};
+ghost use Rattle.outside.specs.Faults.{Rose};
+ghost use Rattle.outside.specs.Sure.{SureFiles};
+ghost use Rattle.outside.specs.declared.sure_sink.SureSink.{SureSink};
 
 use crate::shelf::Shelf;
 use crate::sink::Sink;
 use crate::sure_shelf::SureShelf;
 use crate::sure_sink::SureSink;
 
-// A shelf whose counts are always 0 never fails: a count that rose is above the one before, and 0 isn't.
-fn calls_succeed<S: Shelf>(shelf: &mut S, name: &str, into: &mut [u8], piece: &[u8]) -> bool
-    requires piece { 0 < length piece.now }
-    requires reads { (s : S) (name : List ℕ) → S.read_faults s name ≡ 0 }
-    requires writes { (s : S) (name : List ℕ) → S.write_faults s name ≡ 0 }
-    ensures { result ≡ true }
-{
-    let read = shelf.read_at(name, 0, into).is_ok();
-    let fresh = shelf.fresh(name).is_ok();
-    let append = shelf.append(name, piece).is_ok();
-    read && fresh && append
-}
+/// No count of a [`SureShelf`] rises from any of its states to any other.
+pub fn sure_shelf_never_fails()
+    ensures reads { (before now : SureFiles) (name : List ℕ) → ¬ Rose
+        (⟦<SureShelf as Shelf>⟧.read_faults before name)
+        (⟦<SureShelf as Shelf>⟧.read_faults now name) }
+    ensures writes { (before now : SureFiles) (name : List ℕ) → ¬ Rose
+        (⟦<SureShelf as Shelf>⟧.write_faults before name)
+        (⟦<SureShelf as Shelf>⟧.write_faults now name) }
+{}
 
-fn write_succeeds<S: Sink>(sink: &mut S, piece: &[u8]) -> bool
-    requires piece { 0 < length piece.now }
-    requires faults { (s : S) → S.faults s ≡ 0 }
-    ensures { result ≡ true }
-{
-    sink.write(piece).is_ok()
-}
-
-/// Reads a name, makes it fresh and appends to it: on a [`SureShelf`] no call fails, and this follows from its counts.
-pub fn sure_shelf_never_fails(
-    shelf: &mut SureShelf,
-    name: &str,
-    into: &mut [u8],
-    piece: &[u8],
-) -> bool
-    requires { 0 < length piece.now }
-    ensures { result ≡ true }
-{
-    calls_succeed(shelf, name, into, piece)
-}
-
-/// Writes a piece: on a [`SureSink`] no write fails, and this follows from its count.
-pub fn sure_sink_never_fails(sink: &mut SureSink, piece: &[u8]) -> bool
-    requires { 0 < length piece.now }
-    ensures { result ≡ true }
-{
-    write_succeeds(sink, piece)
-}
+/// The count of a [`SureSink`] never rises.
+pub fn sure_sink_never_fails()
+    ensures { (before now : SureSink) → ¬ Rose
+        (⟦<SureSink as Sink>⟧.faults before)
+        (⟦<SureSink as Sink>⟧.faults now) }
+{}

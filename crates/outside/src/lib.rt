@@ -1,9 +1,17 @@
-//! The outside of the program, behind two traits: a shelf of named files, and a sink for what is printed.
+//! The outside of the program, behind two traits: a [`Shelf`] of files by name, and a [`Sink`] for
+//! what is printed.
 //!
-//! A contract can't say what a real file holds, so each trait has ghost members that say what is known. `told` gives
-//! the bytes of a file or sink where they are known, and nothing where they aren't. Counts of faults, one a name and
-//! kind, never fall, and an answer `Failed` comes only where the count of that name rose: so whoever calls a shelf or
-//! a sink can say of each of its own answers which fault was its cause, also where no byte is told.
+//! A contract can't say what a real file holds, so each trait has ghost members that say what is
+//! known. `told` gives the bytes of a file or sink where they are known, and nothing where they
+//! aren't. Counts of faults, one a name and kind, never fall, and an answer `Failed` comes only
+//! where the count of that name rose: so whoever calls a shelf or a sink can say of each of its
+//! own answers which fault was its cause, also where no byte is told.
+//!
+//! Of each trait there are three forms. [`MemShelf`] and [`MemSink`] tell all their bytes and fail
+//! at the calls that a test names. [`DiskShelf`] and [`StdoutSink`] are the real ones and tell
+//! nothing: their contracts speak of counts alone. [`SureShelf`] and [`SureSink`] never fail, since
+//! their counts are always 0. A name is looked up in a list, so shelves are for a few files. No
+//! method of the two traits takes memory.
 #![tactic(auto)]
 
 mod copies;

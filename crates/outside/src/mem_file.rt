@@ -1,5 +1,5 @@
 // A file that a shelf in memory keeps.
-ghost use Rattle.std.specs.Prelude.{◌≡◌, true, [], length, max, IfOk};
+ghost use Rattle.std.specs.Prelude.{◌≡◌, true, [], length, IfOk};
 ghost use Rattle.std.specs.Str.{bytes_eq};
 ghost use Rattle.outside.specs.Counts.{after_failed_read, after_failed_write};
 ghost use Rattle.outside.specs.Kept.{has_room, with_bytes, with_counts, with_piece, new_file};
@@ -76,7 +76,8 @@ impl MemFile {
         piece.len() <= self.room - self.bytes.len()
     }
 
-    /// Adds a piece at the end, in the room that was made for the file: so it takes no memory and can't fail.
+    /// Adds a piece at the end, in the room that was made for the file: so it takes no memory and
+    /// can't fail.
     pub fn append(&mut self, piece: &[u8])
         requires { has_room self.old.1 piece.now ≡ true }
         ensures { self.new ≡ (self.old.0, with_piece piece.now self.old.1) }

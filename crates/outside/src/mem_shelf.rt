@@ -1,5 +1,5 @@
 // A shelf in memory, for tests.
-ghost use Rattle.std.specs.Prelude.{◌≡◌, ◌≢◌, ℕ, ◌<◌, ◌≤◌, List, [], length, take, position, is_ok, None, Some, IfSome, IfOk, OnOk, OnErr, MatchResult, option_map};
+ghost use Rattle.std.specs.Prelude.{◌≡◌, ℕ, ◌<◌, ◌≤◌, List, [], length, take, position, is_ok, None, Some, IfSome, IfOk, OnOk, OnErr, MatchResult, option_map};
 ghost use Rattle.std.specs.Str.{bytes_eq};
 ghost use Rattle.outside.specs.Faults.{Rose, NeverFall};
 ghost use Rattle.outside.specs.Told.{Finds, Appends, OthersStay};
@@ -14,9 +14,10 @@ use crate::shelf::{LAST_PLACE, Shelf};
 use std::alloc::Global;
 use std::marker::Model;
 
-/// A shelf of files in memory, for tests. A call of the trait's three methods fails where its number, counted from 0
-/// over all three, was named, on a name that wasn't put, and where an appended piece doesn't fit in the room that the
-/// file has left; else it succeeds, and an append takes its whole piece. None of the three takes memory.
+/// A shelf of files in memory, for tests. A call of the trait's three methods fails where its
+/// number, counted from 0 over all three, was named, on a name that wasn't put, and where an
+/// appended piece doesn't fit in the room that the file has left; else it succeeds, and an append
+/// takes its whole piece. None of the three takes memory.
 #[derive(Drop)]
 pub struct MemShelf {
     files: Vec<MemFile>,
@@ -42,7 +43,8 @@ fn place_of(files: &[MemFile], name: &str) -> Option<usize>
 }
 
 impl MemShelf {
-    /// A shelf without files, whose calls with the numbers `failing` fail, and whose files have room for `room` bytes.
+    /// A shelf without files, whose calls with the numbers `failing` fail, and whose files have
+    /// room for `room` bytes.
     pub fn new(alloc: Global, room: usize, failing: &[u64]) -> Result<MemShelf, Memory>
         ensures { IfOk result (λ s. s ≡ new_shelf room failing.now) }
     {
@@ -56,8 +58,9 @@ impl MemShelf {
         })
     }
 
-    /// Adds a file under a name that wasn't put before, with room for the shelf's bytes, or for its own length where
-    /// that is more. Its counts start at those that all other names share, so that none falls.
+    /// Adds a file under a name that wasn't put before, with room for the shelf's bytes, or for
+    /// its own length where that is more. Its counts start at those that all other names share, so
+    /// that none falls.
     pub fn put(&mut self, name: &str, bytes: &[u8]) -> Result<(), Memory>
         requires { told_of self.old name.now ≡ None }
         ensures put { OnOk result (self.new ≡ after_put self.old name.now bytes.now) }

@@ -1,5 +1,5 @@
 // A sink in memory, for tests.
-ghost use Rattle.std.specs.Prelude.{◌≡◌, ℕ, ◌<◌, ◌≤◌, [], ◌++◌, length, take, is_ok, Some, IfOk, OnErr, MatchResult};
+ghost use Rattle.std.specs.Prelude.{◌≡◌, ◌<◌, ◌≤◌, [], length, take, is_ok, Some, IfOk, OnErr, MatchResult};
 ghost use Rattle.outside.specs.Faults.{Rose};
 ghost use Rattle.outside.specs.Told.{Appends};
 ghost use Rattle.outside.specs.Printed.{new_sink, write_passes, after_write};
@@ -10,8 +10,9 @@ use crate::sink::Sink;
 use std::alloc::Global;
 use std::marker::Model;
 
-/// A sink that keeps its bytes, for tests. A write takes its whole piece or fails: it fails where its number, counted
-/// from 0, was named, and where the piece doesn't fit in the room that is left. No write takes memory.
+/// A sink that keeps its bytes, for tests. A write takes its whole piece or fails: it fails where
+/// its number, counted from 0, was named, and where the piece doesn't fit in the room that is
+/// left. No write takes memory.
 #[derive(Drop)]
 pub struct MemSink {
     bytes: Vec<u8>,

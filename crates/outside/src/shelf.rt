@@ -5,7 +5,8 @@ ghost use Rattle.outside.specs.Told.{Finds, Appends};
 
 use crate::faults::Failed;
 
-/// The last place from which a shelf is read: the number of bytes of the longest log that is read, and one.
+/// The last place from which a shelf is read: the number of bytes of the longest log that is read,
+/// and one.
 pub const LAST_PLACE: u64 = 4294967297;
 
 /// Files by name, read from any place and written from the start.
@@ -19,8 +20,8 @@ pub trait Shelf {
     /// How many writes of each name failed, up to 2^64 - 1.
     ghost write_faults: { Self → List ℕ → ℕ };
 
-    /// Reads bytes from `place` on, and answers how many. With a non-empty `into`, 0 means the end of the file. A name
-    /// without a file is a fault.
+    /// Reads bytes from `place` on, and answers how many. With a non-empty `into`, 0 means the end
+    /// of the file. A name without a file is a fault.
     fn read_at(&mut self, name: &str, place: u64, into: &mut [u8]) -> Result<usize, Failed>
         requires { place ≤ LAST_PLACE }
         ensures within { IfOk result (λ n. n ≤ length into.new) }
@@ -40,8 +41,8 @@ pub trait Shelf {
         ensures reads_never_fall { (other : List ℕ) → read_faults self.old other ≤ read_faults self.new other }
         ensures writes_never_fall { (other : List ℕ) → write_faults self.old other ≤ write_faults self.new other };
 
-    /// Adds the first bytes of a piece at the end of the file, and answers how many, at least one. A failed call has
-    /// added nothing.
+    /// Adds the first bytes of a piece at the end of the file, and answers how many, at least one.
+    /// A failed call has added nothing.
     fn append(&mut self, name: &str, piece: &[u8]) -> Result<usize, Failed>
         requires { 0 < length piece.now }
         ensures some { IfOk result (λ n. 0 < n) }

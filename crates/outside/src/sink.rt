@@ -13,7 +13,8 @@ pub trait Sink {
     /// How many writes failed, up to 2^64 - 1.
     ghost faults: { Self → ℕ };
 
-    /// Adds the first bytes of a piece at the end, and answers how many, at least one. A failed call has added nothing.
+    /// Adds the first bytes of a piece at the end, and answers how many, at least one. A failed
+    /// call has added nothing.
     fn write(&mut self, piece: &[u8]) -> Result<usize, Failed>
         requires { 0 < length piece.now }
         ensures some { IfOk result (λ n. 0 < n) }

@@ -8,8 +8,8 @@ use crate::faults::Failed;
 use crate::sink::Sink;
 use std::marker::Model;
 
-/// The standard output. Nothing is told of its bytes. Each write goes straight to the system, and each that fails, or
-/// takes no byte, raises the count.
+/// The standard output. Nothing is told of its bytes. Each write goes straight to the system, and
+/// each that fails, or takes no byte, raises the count.
 #[derive(Drop)]
 pub struct StdoutSink<'a, R> {
     rt: &'a R,

@@ -1,5 +1,5 @@
 // A shelf whose calls never fail.
-ghost use Rattle.std.specs.Prelude.{◌≡◌, ◌≢◌, ℕ, ◌<◌, ◌≤◌, List, [], length, take, position, unwrap_or, false, None, Some, Ok, IfSome, IfOk, OnOk, OnErr, MatchResult};
+ghost use Rattle.std.specs.Prelude.{◌≡◌, ℕ, ◌<◌, ◌≤◌, List, [], length, take, position, unwrap_or, false, None, Some, Ok, IfSome, IfOk, OnOk, OnErr, MatchResult};
 ghost use Rattle.std.specs.Str.{bytes_eq};
 ghost use Rattle.outside.specs.Faults.{Rose};
 ghost use Rattle.outside.specs.Told.{Finds, Appends, OthersStay};
@@ -19,7 +19,7 @@ struct SureFile {
 }
 
 impl Model for SureFile {
-    ghost use Rattle.std.specs.Prelude.{ℕ, List, Option, option_map, string_bytes, vec_items};
+    ghost use Rattle.std.specs.Prelude.{ℕ, List, Option, option_map, string_bytes};
 
     ghost Value = { List ℕ × Option (List ℕ) };
 
@@ -61,8 +61,9 @@ impl SureFile {
     }
 }
 
-/// A shelf whose calls never fail, so that its counts are always 0. It tells the files that were put, until they are
-/// made fresh or appended to. All other names read as empty, and appended bytes aren't kept.
+/// A shelf whose calls never fail, so that its counts are always 0. It tells the files that were
+/// put, until they are made fresh or appended to. All other names read as empty, and appended
+/// bytes aren't kept.
 #[derive(Drop)]
 pub struct SureShelf {
     files: Vec<SureFile>,

@@ -6,8 +6,8 @@ ghost use Rattle.outside.specs.Told.{Appends, untold};
 use crate::faults::Failed;
 use crate::sink::Sink;
 
-/// A sink whose writes never fail, so that its count is always 0. It takes each piece whole, keeps nothing, and
-/// nothing is told of its bytes.
+/// A sink whose writes never fail, so that its count is always 0. It takes each piece whole, keeps
+/// nothing, and nothing is told of its bytes.
 #[derive(Drop)]
 pub struct SureSink;
 
