@@ -6,3 +6,4 @@ pub mod ListFacts
 pub mod CleanRows
 pub mod CleanLibrary
 pub mod ReadLemmas
+pub mod WorkedRows

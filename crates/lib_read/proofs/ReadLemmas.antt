@@ -9,7 +9,7 @@ use Rattle.arch_model.specs.Parts.{LibraryParts}
 use Rattle.lib_read.specs.Fault.{Fault, least, first}
 use Rattle.lib_read.specs.Tree.{tree_of}
 use Rattle.lib_read.specs.Faults.{faults_of}
-use Rattle.lib_read.specs.LibraryOf.{LARGEST, judged, library_of}
+use Rattle.lib_read.specs.LibraryOf.{judged, library_of}
 
 pub tree_is : (bytes : List ℕ) (ms : Members) → IsUtf8 bytes → parse_document bytes ≡ Some ms → tree_of bytes ≡ Some (table ms)
 unfolding tree_of
@@ -23,21 +23,21 @@ no_tree bytes refused =
       | inr other ↦ rw other
     ]
 
-pub library_is : (bytes : List ℕ) (top : Data) (lib : LibraryParts) → length bytes ≤ LARGEST → tree_of bytes ≡ Some top → judged top (least (faults_of top)) ≡ Ok lib → library_of bytes ≡ Ok lib
+pub library_is : (bytes : List ℕ) (top : Data) (lib : LibraryParts) → length bytes ≤ 1048576 → tree_of bytes ≡ Some top → judged top (least (faults_of top)) ≡ Ok lib → library_of bytes ≡ Ok lib
 unfolding library_of
-library_is bytes top lib few tree whole = rw (le-ltb LARGEST (length bytes) few, tree) whole
+library_is bytes top lib few tree whole = rw (le-ltb 1048576 (length bytes) few, tree) whole
 
-pub no_document : (bytes : List ℕ) → length bytes ≤ LARGEST → tree_of bytes ≡ None → IsErr (library_of bytes)
+pub no_document : (bytes : List ℕ) → length bytes ≤ 1048576 → tree_of bytes ≡ None → IsErr (library_of bytes)
 unfolding library_of
-no_document bytes few tree = rw (le-ltb LARGEST (length bytes) few, tree)
+no_document bytes few tree = rw (le-ltb 1048576 (length bytes) few, tree)
 
 some_fault : (top : Data) (fs : List Fault) (f : Fault) → Some f ≡ first fs → IsErr (judged top (least fs))
 some_fault top [] f e = absurd (cc)
 some_fault top (g ∷ fs) f e = refl
 
-pub fault_found : (bytes : List ℕ) (top : Data) (f : Fault) → length bytes ≤ LARGEST → tree_of bytes ≡ Some top → Some f ≡ first (faults_of top) → IsErr (library_of bytes)
+pub fault_found : (bytes : List ℕ) (top : Data) (f : Fault) → length bytes ≤ 1048576 → tree_of bytes ≡ Some top → Some f ≡ first (faults_of top) → IsErr (library_of bytes)
 unfolding library_of
-fault_found bytes top f few tree found = rw (le-ltb LARGEST (length bytes) few, tree) (some_fault top (faults_of top) f found)
+fault_found bytes top f few tree found = rw (le-ltb 1048576 (length bytes) few, tree) (some_fault top (faults_of top) f found)
 
 pub none_found : (top : Data) → faults_of top ≡ [] → least (faults_of top) ≡ None
 none_found top e = ap least e

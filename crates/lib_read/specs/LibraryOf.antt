@@ -10,10 +10,6 @@ use Rattle.lib_read.specs.Tree.{tree_of}
 use Rattle.lib_read.specs.Faults.{fault, faults_of}
 use Rattle.lib_read.specs.Rows.{library_of_tree}
 
--- what bytes are too many for a library file
-abbrev pub LARGEST : ℕ
-LARGEST = 1048576
-
 -- the least fault of a document, or its library where it has none
 abbrev pub judged : Data → Option Fault → Result LibraryParts Fault
 judged top None = Ok (library_of_tree top)
@@ -23,12 +19,12 @@ abbrev pub of_tree : Option Data → Result LibraryParts Fault
 of_tree None = Err (fault NotToml Library 0 (codes "-"))
 of_tree (Some top) = judged top (least (faults_of top))
 
--- too many bytes, bytes that are no TOML document, or what the document is
+-- more than 1048576 bytes, bytes that are no TOML document, or what the document is
 unfoldable pub library_of : List ℕ → Result LibraryParts Fault
 library_of bytes =
-    if nat_lt LARGEST (length bytes) then Err (fault TooLarge Library 0 (codes "-")) else of_tree (tree_of bytes)
+    if nat_lt 1048576 (length bytes) then Err (fault TooLarge Library 0 (codes "-")) else of_tree (tree_of bytes)
 
 -- bytes over the limit are no library
-pub too_large : (bytes : List ℕ) → LARGEST < length bytes → IsErr (library_of bytes)
+pub too_large : (bytes : List ℕ) → 1048576 < length bytes → IsErr (library_of bytes)
 unfolding library_of
-too_large bytes h = rw (lt-ltb LARGEST (length bytes) h)
+too_large bytes h = rw (lt-ltb 1048576 (length bytes) h)
