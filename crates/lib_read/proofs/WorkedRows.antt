@@ -1,14 +1,14 @@
 -- Worked rows: what the definition gives for some texts.
-use Rattle.std.proofs.Common.{◌≡◌, codes, ℕ, List, [], ◌∷◌, Option, Some, None, Ok, Err, refl}
+use Rattle.std.proofs.Common.{◌≡◌, codes, [], ◌∷◌, None, Ok, Err, refl}
 use Rattle.std.specs.Str.{chars, is_utf8}
 use Rattle.toml.proofs.OnLiterals.{toml_on_literals}
-use Rattle.arch_model.specs.declared.template.Role.TheVariants.{Middle, Source, Sink}
+use Rattle.arch_model.specs.declared.template.Role.TheVariants.{Middle}
 use Rattle.arch_model.specs.declared.library.TypeRow.{TypeRow}
 use Rattle.arch_model.specs.declared.library.Pattern.TheVariants.{Count}
 use Rattle.arch_model.specs.Library.{library_parts}
 use Rattle.arch_model.specs.Template.{template_of}
-use Rattle.lib_read.specs.declared.fault.LibClass.TheVariants.{TooLarge, NotToml, UnknownKey, MissingKey, WrongKind, BadName, Duplicate, UnknownName, Range, TooMany}
-use Rattle.lib_read.specs.declared.fault.TableName.TheVariants.{Library, Types, Links, Patterns, Requires}
+use Rattle.lib_read.specs.declared.fault.LibClass.TheVariants.{UnknownKey, WrongKind, BadName, Duplicate, Range}
+use Rattle.lib_read.specs.declared.fault.TableName.TheVariants.{Library, Types, Links, Patterns}
 use Rattle.lib_read.specs.Tree.{tree_of}
 use Rattle.lib_read.specs.Faults.{fault}
 use Rattle.lib_read.specs.LibraryOf.{library_of}

@@ -84,7 +84,8 @@ fn is_between(low: u64, high: u64, z: i64) -> bool
     }
 }
 
-// Whether the key's value is a text that should be one of some words, or a number, and is out of range.
+// Whether the key's value is a text that should be one of some words, or a number, and is out of
+// its range.
 fn is_out_of_range(key: &Key, row: &Value) -> bool
     ensures { result ≡ spec.is_out_of_range key.now.meaning key.now.name.now (view row.now) }
 {

@@ -32,10 +32,15 @@ pub enum LibClass {
 /// The tables of a library file, and the file itself.
 #[derive(Clone, Copy, Debug, PartialEq, Eq)]
 pub enum TableName {
+    /// The file as a whole, whose keys are the names of the tables.
     Library,
+    /// The types of components, `type`.
     Types,
+    /// The links between types, `link`.
     Links,
+    /// The patterns, `pattern`.
     Patterns,
+    /// The requirements on sinks, `require`.
     Requires,
 }
 

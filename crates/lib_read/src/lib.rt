@@ -1,15 +1,15 @@
 //! Reads a library file: TOML bytes into a `Library`, or a refusal.
 //!
 //! `library_of` says, for any bytes, which library they are or which fault is their first: too many
-//! bytes, no TOML document, or the least of all faults of the document by class, table, position and
-//! key. `read_library` answers that library, and refuses only bytes that have a fault.
+//! bytes, no TOML document, or the least of all faults of the document by class, table, position
+//! and key. `read_library` answers that library, and refuses only bytes that have a fault.
 //!
-//! The faults are looked for class by class, in one pass over each table for a class, and the passes
-//! stop at the first fault. The keys of each table, with what their values mean, stand in one place
-//! (`schema`), and a new key or kind of pattern is a row there.
+//! The faults are looked for class by class, in one pass over each table for a class, and the
+//! passes stop at the first fault. The keys of each table, with what their values mean, stand in
+//! one place (`schema`), and a new key or kind of pattern is a row there.
 //!
-//! Stands on `arch_model` and `template`, on the crates `toml` and `indexmap`. It costs the parse, a
-//! few look-ups for each key of each row, and two hash sets: of names and of pairs of names.
+//! Stands on `arch_model` and `template`, on the crates `toml` and `indexmap`. It costs the parse,
+//! a few look-ups for each key of each row, and two hash sets: of names and of pairs of names.
 #![tactic(auto)]
 
 mod checks;

@@ -85,7 +85,8 @@ impl<'a> Pairs<'a> {
     // Adds a pair at the end, and says whether it is new: one that is there stays in its place.
     pub(crate) fn add(&mut self, from: &'a str, to: &'a str) -> Result<bool, Memory>
         ensures new { IfOk result (λ added. added ≡ not (list_any (same_ends (from.now, to.now)) self.old)) }
-        ensures pairs { IfOk result (λ added. self.new ≡ (if added then self.old ++ (from.now, to.now) ∷ [] else self.old)) }
+        ensures pairs { IfOk result
+            (λ added. self.new ≡ (if added then self.old ++ (from.now, to.now) ∷ [] else self.old)) }
     {
         Ok(self.set.insert((from, to))?)
     }

@@ -34,7 +34,8 @@ fn is_known(keys: &[Key], name: &str) -> bool
 
 // The first key of a table that isn't one of some.
 fn unknown_key<'a>(keys: &[Key], row: &'a Table) -> Option<&'a str>
-    ensures { option_copied result ≡ first (faults.faulty_keys [] LibClass.UnknownKey (map key_view keys.now) (table (table_view row.now))) }
+    ensures { option_copied result ≡
+        first (faults.faulty_keys [] LibClass.UnknownKey (map key_view keys.now) (table (table_view row.now))) }
 {
     for (name, _) in row {
         if !is_known(keys, name.as_str()) {
@@ -51,7 +52,8 @@ fn faulty_key(
     row: &Value,
     names: &Names,
 ) -> Option<&'static str>
-    ensures { option_copied result ≡ first (map (λ key. key.name) (filter (spec.is_faulty names.now class (view row.now)) (map key_view keys.now))) }
+    ensures { option_copied result ≡
+        first (map (λ key. key.name) (filter (spec.is_faulty names.now class (view row.now)) (map key_view keys.now))) }
 {
     for key in keys {
         if is_faulty(class, key, row, names) {
@@ -68,7 +70,8 @@ fn row_key<'a>(
     row: &'a Value,
     names: &Names,
 ) -> Option<&'a str>
-    ensures { option_copied result ≡ first (faults.faulty_keys names.now class (map key_view keys.now) (view row.now)) }
+    ensures { option_copied result ≡
+        first (faults.faulty_keys names.now class (map key_view keys.now) (view row.now)) }
 {
     match row {
         Value::Table(table) if class == LibClass::UnknownKey => unknown_key(keys, table),

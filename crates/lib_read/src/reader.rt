@@ -88,9 +88,9 @@ fn tree(alloc: Global, bytes: &[u8]) -> Result<Value, LibError>
 
 /// Reads the bytes of a library file.
 ///
-/// Answers the library that the bytes are by `library_of`, or `Refused`, which comes only where they
-/// have a fault: more than 1048576 bytes, no TOML document, or a document with a fault of its keys,
-/// values, names, ranges or limits. `Memory` may always come, and says nothing of the bytes.
+/// Answers the library that the bytes are by `library_of`, or `Refused`, which comes only where
+/// they have a fault: more than 1048576 bytes, no TOML document, or a document with a fault of its
+/// keys, values, names, ranges or limits. `Memory` may always come, and says nothing of the bytes.
 pub fn read_library(alloc: Global, bytes: &[u8]) -> Result<Library, LibError>
     ensures library { IfOk result (λ lib. library_of bytes.now ≡ Ok lib) }
     ensures refused { IsErrOf result LibError.Refused → IsErr (library_of bytes.now) }

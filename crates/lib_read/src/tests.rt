@@ -8,20 +8,20 @@ fn refusal(alloc: Global, text: &str) -> Option<LibError> {
     read_library(alloc, text.as_bytes()).err()
 }
 
-const CHAIN: &str = "type = [
-  {name = \"gen\", role = \"source\", max = 2, cost = 100, fail = 1000},
-  {name = \"bus\", role = \"middle\", max = 2, cost = 20, fail = 100},
-  {name = \"load\", role = \"sink\"},
+const CHAIN: &str = r#"type = [
+  {name = "gen", role = "source", max = 2, cost = 100, fail = 1000},
+  {name = "bus", role = "middle", max = 2, cost = 20, fail = 100},
+  {name = "load", role = "sink"},
 ]
 link = [
-  {from = \"gen\", to = \"bus\", cost = 5},
-  {from = \"bus\", to = \"load\"},
+  {from = "gen", to = "bus", cost = 5},
+  {from = "bus", to = "load"},
 ]
 pattern = [
-  {kind = \"count\", type = \"load\", min = 1, max = 4},
-  {kind = \"count\", type = \"gen\"},
+  {kind = "count", type = "load", min = 1, max = 4},
+  {kind = "count", type = "gen"},
 ]
-";
+"#;
 
 #[test]
 fn a_chain_is_read_row_by_row(rt: HostRuntime) -> Result<(), Fail> {
@@ -60,7 +60,12 @@ fn a_chain_is_read_row_by_row(rt: HostRuntime) -> Result<(), Fail> {
 
 #[test]
 fn supply_and_demand_are_told_apart(rt: HostRuntime) -> Result<(), Fail> {
-    let text = "[[type]]\nname = \"b1\"\nrole = \"middle\"\nsupply = 3\ndemand = 1000000000000\n";
+    let text = r#"[[type]]
+name = "b1"
+role = "middle"
+supply = 3
+demand = 1000000000000
+"#;
     let library = read_library(rt.alloc(), text.as_bytes())?;
     assert_eq!(rt; library.types().len(), 1);
     assert_eq!(rt; library.types()[0].supply, 3);
@@ -75,14 +80,22 @@ fn good_files_are_read(rt: HostRuntime) -> Result<(), Fail> {
         "",
         "# nothing\n",
         "\u{feff}type = []",
-        "type = [{name = \"x\", role = \"middle\", cost = 7}]\npattern = [{kind = \"count\", type = \"x\", min = 1}]",
-        "type = [{name = \"p\", role = \"source\", max = 2, cost = 3}]\npattern = [{kind = \"count\", type = \"p\", min = 1}]",
-        "type = [{name = \"s\", role = \"source\", cost = 1, fail = 1000}, {name = \"t\", role = \"sink\"}]\nlink = [{from = \"s\", to = \"t\"}]",
-        "type = [{name = \"abcdefghijklmnopqrstuvw_\", role = \"sink\", max = 64, cost = 1000000000000, fail = 1000000}]",
-        "type = [{name = \"a\", role = \"sink\", max = 32}, {name = \"b\", role = \"sink\", max = 32}]",
-        "type = [{name = \"a\", role = \"sink\", max = 32}, {name = \"b\", role = \"sink\", max = 16}]\nlink = [{from = \"a\", to = \"b\"}]",
-        "type = [{name = \"a\", role = \"sink\"}]\npattern = [{kind = \"count\", type = \"a\", min = 512, max = 0}]",
-        "type = [{name = \"a\", role = \"sink\"}, {name = \"b\", role = \"sink\"}]\nlink = [{from = \"a\", to = \"b\"}, {from = \"b\", to = \"a\"}, {from = \"a\", to = \"a\"}]",
+        r#"type = [{name = "x", role = "middle", cost = 7}]
+pattern = [{kind = "count", type = "x", min = 1}]"#,
+        r#"type = [{name = "p", role = "source", max = 2, cost = 3}]
+pattern = [{kind = "count", type = "p", min = 1}]"#,
+        r#"type = [{name = "s", role = "source", cost = 1, fail = 1000},
+  {name = "t", role = "sink"}]
+link = [{from = "s", to = "t"}]"#,
+        r#"type = [{name = "abcdefghijklmnopqrstuvw_", role = "sink", max = 64,
+  cost = 1000000000000, fail = 1000000}]"#,
+        r#"type = [{name = "a", role = "sink", max = 32}, {name = "b", role = "sink", max = 32}]"#,
+        r#"type = [{name = "a", role = "sink", max = 32}, {name = "b", role = "sink", max = 16}]
+link = [{from = "a", to = "b"}]"#,
+        r#"type = [{name = "a", role = "sink"}]
+pattern = [{kind = "count", type = "a", min = 512, max = 0}]"#,
+        r#"type = [{name = "a", role = "sink"}, {name = "b", role = "sink"}]
+link = [{from = "a", to = "b"}, {from = "b", to = "a"}, {from = "a", to = "a"}]"#,
     ] {
         assert_eq!(rt; refusal(rt.alloc(), text), None, "{text}");
     }
@@ -91,8 +104,8 @@ fn good_files_are_read(rt: HostRuntime) -> Result<(), Fail> {
 
 #[test]
 fn a_self_link_joins_each_instance_to_each_other(rt: HostRuntime) -> Result<(), Fail> {
-    let text =
-        "type = [{name = \"a\", role = \"middle\", max = 3}]\nlink = [{from = \"a\", to = \"a\"}]";
+    let text = r#"type = [{name = "a", role = "middle", max = 3}]
+link = [{from = "a", to = "a"}]"#;
     let library = read_library(rt.alloc(), text.as_bytes())?;
     assert_eq!(rt; library.edges().len(), 6);
     Ok(())
@@ -111,40 +124,52 @@ fn faulty_files_are_refused(rt: HostRuntime) -> Result<(), Fail> {
         "type = [1]",
         "type.a = 1",
         "require = []",
-        "type = [{name = \"a\", role = \"sink\", zz = 1}]",
-        "type = [{name = \"a\", role = \"sink\", cost.a = 1}]",
-        "type = [{name = \"a\", role = \"sink\", cost = 1.5}]",
-        "type = [{name = 1, role = \"sink\"}]",
+        r#"type = [{name = "a", role = "sink", zz = 1}]"#,
+        r#"type = [{name = "a", role = "sink", cost.a = 1}]"#,
+        r#"type = [{name = "a", role = "sink", cost = 1.5}]"#,
+        r#"type = [{name = 1, role = "sink"}]"#,
         // names
-        "type = [{name = \"A\", role = \"sink\"}]",
-        "type = [{name = \"\", role = \"sink\"}]",
-        "type = [{name = \"1a\", role = \"sink\"}]",
-        "type = [{name = \"abcdefghijklmnopqrstuvwxy\", role = \"sink\"}]",
-        "type = [{name = \"a\", role = \"sink\"}, {name = \"a\", role = \"source\"}]",
+        r#"type = [{name = "A", role = "sink"}]"#,
+        r#"type = [{name = "", role = "sink"}]"#,
+        r#"type = [{name = "1a", role = "sink"}]"#,
+        r#"type = [{name = "abcdefghijklmnopqrstuvwxy", role = "sink"}]"#,
+        r#"type = [{name = "a", role = "sink"}, {name = "a", role = "source"}]"#,
         // ranges
-        "type = [{name = \"a\", role = \"x\"}]",
-        "type = [{name = \"a\", role = \"sink\", fail = 1000001}]",
-        "type = [{name = \"a\", role = \"sink\", cost = 1000000000001}]",
-        "type = [{name = \"a\", role = \"sink\", cost = -1}]",
-        "type = [{name = \"a\", role = \"sink\", max = 0}]",
-        "type = [{name = \"a\", role = \"sink\", max = 65}]",
+        r#"type = [{name = "a", role = "x"}]"#,
+        r#"type = [{name = "a", role = "sink", fail = 1000001}]"#,
+        r#"type = [{name = "a", role = "sink", cost = 1000000000001}]"#,
+        r#"type = [{name = "a", role = "sink", cost = -1}]"#,
+        r#"type = [{name = "a", role = "sink", max = 0}]"#,
+        r#"type = [{name = "a", role = "sink", max = 65}]"#,
         // links
-        "link = [{from = \"a\", to = \"b\"}]",
-        "type = [{name = \"a\", role = \"sink\"}]\nlink = [{from = \"a\"}]",
-        "type = [{name = \"a\", role = \"sink\"}]\nlink = [{from = \"a\", to = \"a\", fail = 0}]",
-        "type = [{name = \"a\", role = \"sink\"}]\nlink = [{from = \"a\", to = \"b\"}]",
-        "type = [{name = \"a\", role = \"sink\"}]\nlink = [{from = \"a\", to = \"a\"}, {from = \"a\", to = \"a\"}]",
+        r#"link = [{from = "a", to = "b"}]"#,
+        r#"type = [{name = "a", role = "sink"}]
+link = [{from = "a"}]"#,
+        r#"type = [{name = "a", role = "sink"}]
+link = [{from = "a", to = "a", fail = 0}]"#,
+        r#"type = [{name = "a", role = "sink"}]
+link = [{from = "a", to = "b"}]"#,
+        r#"type = [{name = "a", role = "sink"}]
+link = [{from = "a", to = "a"}, {from = "a", to = "a"}]"#,
         // patterns
-        "type = [{name = \"a\", role = \"sink\"}]\npattern = [{type = \"a\"}]",
-        "type = [{name = \"a\", role = \"sink\"}]\npattern = [{kind = \"count\"}]",
-        "type = [{name = \"a\", role = \"sink\"}]\npattern = [{kind = 1, type = \"a\"}]",
-        "type = [{name = \"a\", role = \"sink\"}]\npattern = [{kind = \"indegree\", type = \"a\"}]",
-        "type = [{name = \"a\", role = \"sink\"}]\npattern = [{kind = \"count\", type = \"b\"}]",
-        "type = [{name = \"a\", role = \"sink\"}]\npattern = [{kind = \"count\", type = \"a\", min = 513}]",
-        "type = [{name = \"a\", role = \"sink\"}]\npattern = [{kind = \"count\", type = \"a\", from = \"a\"}]",
+        r#"type = [{name = "a", role = "sink"}]
+pattern = [{type = "a"}]"#,
+        r#"type = [{name = "a", role = "sink"}]
+pattern = [{kind = "count"}]"#,
+        r#"type = [{name = "a", role = "sink"}]
+pattern = [{kind = 1, type = "a"}]"#,
+        r#"type = [{name = "a", role = "sink"}]
+pattern = [{kind = "indegree", type = "a"}]"#,
+        r#"type = [{name = "a", role = "sink"}]
+pattern = [{kind = "count", type = "b"}]"#,
+        r#"type = [{name = "a", role = "sink"}]
+pattern = [{kind = "count", type = "a", min = 513}]"#,
+        r#"type = [{name = "a", role = "sink"}]
+pattern = [{kind = "count", type = "a", from = "a"}]"#,
         // 65 components, 513 edges
-        "type = [{name = \"a\", role = \"sink\", max = 33}, {name = \"b\", role = \"sink\", max = 32}]",
-        "type = [{name = \"a\", role = \"sink\", max = 27}, {name = \"b\", role = \"sink\", max = 19}]\nlink = [{from = \"a\", to = \"b\"}]",
+        r#"type = [{name = "a", role = "sink", max = 33}, {name = "b", role = "sink", max = 32}]"#,
+        r#"type = [{name = "a", role = "sink", max = 27}, {name = "b", role = "sink", max = 19}]
+link = [{from = "a", to = "b"}]"#,
     ] {
         assert_eq!(rt;
             refusal(rt.alloc(), text),
@@ -157,9 +182,20 @@ fn faulty_files_are_refused(rt: HostRuntime) -> Result<(), Fail> {
 
 // A library with a type and some patterns.
 fn with_patterns(alloc: Global, n: u32) -> Result<String, Fail> {
-    let mut text = String::from_str(alloc, "[[type]]\nname = \"a\"\nrole = \"sink\"\n")?;
+    let mut text = String::from_str(
+        alloc,
+        r#"[[type]]
+name = "a"
+role = "sink"
+"#,
+    )?;
     for _ in 0..n {
-        text.push_str("[[pattern]]\nkind = \"count\"\ntype = \"a\"\n")?;
+        text.push_str(
+            r#"[[pattern]]
+kind = "count"
+type = "a"
+"#,
+        )?;
     }
     Ok(text)
 }
