@@ -1,0 +1,280 @@
+-- Worked rows: what the definitions compute on small libraries.
+use Rattle.std.proofs.Common.{◌≡◌, ℕ, ℤ, pos, negsuc, true, false, List, [], ◌∷◌, map, take, drop, replicate, Option, Some, None, refl}
+use Rattle.std.specs.List.{range_with_len}
+use Rattle.arch_model.specs.declared.library.TypeRow.{TypeRow}
+use Rattle.arch_model.specs.declared.library.LinkRow.{LinkRow}
+use Rattle.arch_model.specs.declared.library.Pattern.{Pattern}
+use Rattle.arch_model.specs.declared.library.Pattern.TheVariants.{Count, InDegree, OutDegree, InNeedsOut, Exclusive, Implies, Forbid, TotalSupply, LocalSupply, CostCap}
+use Rattle.arch_model.specs.declared.template.Role.TheVariants.{Source, Middle, Sink}
+use Rattle.arch_model.specs.Parts.{LibraryParts}
+use Rattle.arch_model.specs.Set.{has, empty, put}
+use Rattle.arch_model.specs.Library.{library_parts}
+use Rattle.arch_model.specs.Template.{template_of}
+use Rattle.rows.specs.declared.row.Term.{Term}
+use Rattle.rows.specs.declared.known.Pair.{Pair}
+use Rattle.rows.specs.declared.known.RowRef.TheVariants.{Base, Cost}
+use Rattle.rows.specs.Parts.{RowParts, KnownParts}
+use Rattle.rows.specs.Row.{term}
+use Rattle.rows.specs.Cube.{whole, fixed_at}
+use Rattle.rows.specs.Activity.{is_refuted, least_forced}
+use Rattle.rows.specs.BaseRows.{base_rows_of, cost_row_of}
+use Rattle.rows.specs.Trace.{cube_after}
+use Rattle.rows.specs.Reason.{combination_of}
+use Rattle.rows.specs.Ascent.{ascent_of, is_ascent_refuted}
+
+-- a row written out
+abbrev row : List Term → ℤ → RowParts
+row terms least = record { terms = terms; least = least }
+
+-- U: a source s of cost 1, and a required sink t
+abbrev types_u : List TypeRow
+types_u =
+    record { name = 1 ∷ []; role = Source; max = 1; cost = 1; supply = 0; demand = 0; fail = 1000 }
+    ∷ (record { name = 2 ∷ []; role = Sink; max = 1; cost = 0; supply = 0; demand = 0; fail = 0 } ∷ [])
+
+abbrev links_u : List LinkRow
+links_u = record { from = 0; to = 1; cost = 0; fail = 0 } ∷ []
+
+abbrev lib_u : LibraryParts
+lib_u = library_parts types_u links_u (template_of types_u links_u) [] (record { sink = record { 0 = 1 }; bound = 0 } ∷ [])
+
+u-rows : base_rows_of lib_u
+    ≡ row (term 0 (pos 1) ∷ term 2 (negsuc 0) ∷ []) (pos 0)
+    ∷ row (term 1 (pos 1) ∷ term 2 (negsuc 0) ∷ []) (pos 0)
+    ∷ row (term 1 (pos 1) ∷ []) (pos 1)
+    ∷ []
+unfolding base_rows_of
+u-rows = refl
+
+-- Q: a source a, two middles b and a sink c, with links a to b and b to c
+abbrev types_q : List TypeRow
+types_q =
+    record { name = 1 ∷ []; role = Source; max = 1; cost = 2; supply = 3; demand = 0; fail = 0 }
+    ∷ (record { name = 2 ∷ []; role = Middle; max = 2; cost = 1; supply = 0; demand = 0; fail = 0 }
+    ∷ (record { name = 3 ∷ []; role = Sink; max = 1; cost = 0; supply = 0; demand = 5; fail = 0 } ∷ []))
+
+abbrev links_q : List LinkRow
+links_q = record { from = 0; to = 1; cost = 1; fail = 0 } ∷ (record { from = 1; to = 2; cost = 1; fail = 0 } ∷ [])
+
+abbrev lib_q : Pattern → LibraryParts
+lib_q p = library_parts types_q links_q (template_of types_q links_q) (p ∷ []) []
+
+-- the rows of one pattern over Q, after the edges' eight
+abbrev rows_q : Pattern → List RowParts
+rows_q p = drop 8 (base_rows_of (lib_q p))
+
+q-edges : take 8 (base_rows_of (lib_q TotalSupply))
+    ≡ row (term 0 (pos 1) ∷ term 4 (negsuc 0) ∷ []) (pos 0)
+    ∷ row (term 1 (pos 1) ∷ term 4 (negsuc 0) ∷ []) (pos 0)
+    ∷ row (term 0 (pos 1) ∷ term 5 (negsuc 0) ∷ []) (pos 0)
+    ∷ row (term 2 (pos 1) ∷ term 5 (negsuc 0) ∷ []) (pos 0)
+    ∷ row (term 1 (pos 1) ∷ term 6 (negsuc 0) ∷ []) (pos 0)
+    ∷ row (term 3 (pos 1) ∷ term 6 (negsuc 0) ∷ []) (pos 0)
+    ∷ row (term 2 (pos 1) ∷ term 7 (negsuc 0) ∷ []) (pos 0)
+    ∷ row (term 3 (pos 1) ∷ term 7 (negsuc 0) ∷ []) (pos 0)
+    ∷ []
+unfolding base_rows_of
+q-edges = refl
+
+q-count : rows_q (Count 1 1 (Some 1))
+    ≡ row (term 1 (pos 1) ∷ term 2 (pos 1) ∷ []) (pos 1)
+    ∷ row (term 1 (negsuc 0) ∷ term 2 (negsuc 0) ∷ []) (negsuc 0)
+    ∷ []
+unfolding base_rows_of
+q-count = refl
+
+q-indegree : rows_q (InDegree 2 1 2 None) ≡ row (term 3 (negsuc 1) ∷ term 6 (pos 1) ∷ term 7 (pos 1) ∷ []) (pos 0) ∷ []
+unfolding base_rows_of
+q-indegree = refl
+
+q-outdegree : rows_q (OutDegree 0 1 0 (Some 1)) ≡ row (term 4 (negsuc 0) ∷ term 5 (negsuc 0) ∷ []) (negsuc 0) ∷ []
+unfolding base_rows_of
+q-outdegree = refl
+
+q-in_needs_out : rows_q (InNeedsOut 1 0 2)
+    ≡ row (term 4 (negsuc 0) ∷ term 6 (pos 1) ∷ []) (pos 0)
+    ∷ row (term 5 (negsuc 0) ∷ term 7 (pos 1) ∷ []) (pos 0)
+    ∷ []
+unfolding base_rows_of
+q-in_needs_out = refl
+
+q-exclusive : rows_q (Exclusive 2 1 0) ≡ []
+unfolding base_rows_of
+q-exclusive = refl
+
+q-implies : rows_q (Implies 0 1) ≡ row (term 0 (negsuc 0) ∷ term 1 (pos 1) ∷ term 2 (pos 1) ∷ []) (pos 0) ∷ []
+unfolding base_rows_of
+q-implies = refl
+
+q-forbid : rows_q (Forbid (record { 0 = 0 }) (record { 0 = 2 })) ≡ row (term 5 (negsuc 0) ∷ []) (pos 0) ∷ []
+unfolding base_rows_of
+q-forbid = refl
+
+q-total_supply : rows_q TotalSupply ≡ row (term 0 (pos 3) ∷ term 3 (negsuc 4) ∷ []) (pos 0) ∷ []
+unfolding base_rows_of
+q-total_supply = refl
+
+q-local_supply : rows_q (LocalSupply 1)
+    ≡ row (term 4 (pos 3) ∷ term 6 (negsuc 4) ∷ []) (pos 0)
+    ∷ row (term 5 (pos 3) ∷ term 7 (negsuc 4) ∷ []) (pos 0)
+    ∷ []
+unfolding base_rows_of
+q-local_supply = refl
+
+q-cost_cap : rows_q (CostCap 4)
+    ≡ row (term 0 (negsuc 1) ∷ term 1 (negsuc 0) ∷ term 2 (negsuc 0) ∷ term 4 (negsuc 0) ∷ term 5 (negsuc 0) ∷ term 6 (negsuc 0) ∷ term 7 (negsuc 0) ∷ []) (negsuc 3)
+    ∷ []
+unfolding base_rows_of
+q-cost_cap = refl
+
+-- terms of one variable are added up, and those that vanish are dropped
+q-implies_itself : rows_q (Implies 1 1) ≡ row (term 2 (pos 1) ∷ []) (pos 0) ∷ row (term 1 (pos 1) ∷ []) (pos 0) ∷ []
+unfolding base_rows_of
+q-implies_itself = refl
+
+-- two middles a and b that feed a type c of two, which is linked to itself
+abbrev types_s : List TypeRow
+types_s =
+    record { name = 1 ∷ []; role = Source; max = 2; cost = 0; supply = 4; demand = 1; fail = 0 }
+    ∷ (record { name = 2 ∷ []; role = Middle; max = 2; cost = 0; supply = 7; demand = 2; fail = 0 } ∷ [])
+
+abbrev links_s : List LinkRow
+links_s = record { from = 0; to = 1; cost = 0; fail = 0 } ∷ (record { from = 1; to = 1; cost = 0; fail = 0 } ∷ [])
+
+abbrev rows_s : Pattern → List RowParts
+rows_s p = drop 12 (base_rows_of (library_parts types_s links_s (template_of types_s links_s) (p ∷ []) []))
+
+-- edges 4 to 9: 0-2, 0-3, 1-2, 1-3, 2-3, 3-2
+s-in_needs_out : rows_s (InNeedsOut 1 0 1)
+    ≡ row (term 4 (negsuc 0) ∷ term 8 (pos 1) ∷ []) (pos 0)
+    ∷ row (term 6 (negsuc 0) ∷ term 8 (pos 1) ∷ []) (pos 0)
+    ∷ row (term 5 (negsuc 0) ∷ term 9 (pos 1) ∷ []) (pos 0)
+    ∷ row (term 7 (negsuc 0) ∷ term 9 (pos 1) ∷ []) (pos 0)
+    ∷ []
+unfolding base_rows_of
+s-in_needs_out = refl
+
+s-exclusive : rows_s (Exclusive 1 1 0)
+    ≡ row (term 4 (negsuc 0) ∷ term 6 (negsuc 0) ∷ term 9 (negsuc 1) ∷ []) (negsuc 1)
+    ∷ row (term 5 (negsuc 0) ∷ term 7 (negsuc 0) ∷ term 8 (negsuc 1) ∷ []) (negsuc 1)
+    ∷ []
+unfolding base_rows_of
+s-exclusive = refl
+
+s-local_supply : rows_s (LocalSupply 1)
+    ≡ row (term 4 (pos 4) ∷ term 6 (pos 4) ∷ term 8 (negsuc 1) ∷ term 9 (pos 7) ∷ []) (pos 0)
+    ∷ row (term 5 (pos 4) ∷ term 7 (pos 4) ∷ term 8 (pos 7) ∷ term 9 (negsuc 1) ∷ []) (pos 0)
+    ∷ []
+unfolding base_rows_of
+s-local_supply = refl
+
+-- a program of a library and its base rows, without cuts
+abbrev known_of : LibraryParts → Option ℕ → KnownParts
+known_of lib bound = record { problem = record { library = lib; base = base_rows_of lib }; cuts = []; upto = 0; bound = bound }
+
+-- X: one middle of cost 7, of which one is asked for
+abbrev types_x : List TypeRow
+types_x = record { name = 1 ∷ []; role = Middle; max = 1; cost = 7; supply = 0; demand = 0; fail = 0 } ∷ []
+
+abbrev lib_x : LibraryParts
+lib_x = library_parts types_x [] (template_of types_x []) (Count 0 1 None ∷ []) []
+
+-- b0 forces the one variable to 1, and then nothing is free
+x-whole : cube_after (known_of lib_x None) whole (Base 0 ∷ []) ≡ Some (fixed_at whole 0 true)
+unfolding base_rows_of has empty put
+x-whole = refl
+
+-- P: two sources of cost 3, of which a least number is asked for
+abbrev types_p : List TypeRow
+types_p = record { name = 1 ∷ []; role = Source; max = 2; cost = 3; supply = 0; demand = 0; fail = 0 } ∷ []
+
+abbrev lib_p : ℕ → LibraryParts
+lib_p min = library_parts types_p [] (template_of types_p []) (Count 0 min None ∷ []) []
+
+abbrev p_row : RowParts
+p_row = row (term 0 (pos 1) ∷ term 1 (pos 1) ∷ []) (pos 1)
+
+p-rows : base_rows_of (lib_p 1) ≡ p_row ∷ []
+unfolding base_rows_of
+p-rows = refl
+
+-- P's row neither forces nor is refuted in the whole cube
+p-whole-forced : least_forced p_row whole ≡ None
+unfolding has empty put
+p-whole-forced = refl
+
+p-whole-refuted : is_refuted p_row whole ≡ false
+unfolding has empty put
+p-whole-refuted = refl
+
+-- with variable 0 at 0 it forces variable 1 to 1
+p-zero : cube_after (known_of (lib_p 1) None) (fixed_at whole 0 false) (Base 0 ∷ []) ≡ Some (fixed_at (fixed_at whole 0 false) 1 true)
+unfolding base_rows_of has empty put
+p-zero = refl
+
+-- the bound 3 asks for a cost of at most 2: the cost row forces both variables to 0, and then P's row is refuted
+p-cost : cost_row_of (lib_p 1) 3 ≡ row (term 0 (negsuc 2) ∷ term 1 (negsuc 2) ∷ []) (negsuc 1)
+p-cost = refl
+
+p-bound : cube_after (known_of (lib_p 1) (Some 3)) whole (Cost ∷ Cost ∷ []) ≡ Some (fixed_at (fixed_at whole 0 false) 1 false)
+unfolding base_rows_of has empty put
+p-bound = refl
+
+p-bound-refuted : is_refuted p_row (fixed_at (fixed_at whole 0 false) 1 false) ≡ true
+unfolding has empty put
+p-bound-refuted = refl
+
+-- with at least two asked for, b0 forces both to 1, the least first
+p-both : cube_after (known_of (lib_p 2) None) whole (Base 0 ∷ Base 0 ∷ []) ≡ Some (fixed_at (fixed_at whole 0 true) 1 true)
+unfolding base_rows_of has empty put
+p-both = refl
+
+-- a step whose row forces nothing, or isn't there, is not legal
+p-idle : cube_after (known_of (lib_p 1) None) whole (Base 0 ∷ []) ≡ None
+unfolding base_rows_of has empty put
+p-idle = refl
+
+p-absent : cube_after (known_of (lib_p 1) None) whole (Cost ∷ []) ≡ None
+unfolding base_rows_of has empty put
+p-absent = refl
+
+-- twelve types of two sources of cost 10, of each of which one is asked for
+abbrev type_twelve : TypeRow
+type_twelve = record { name = 1 ∷ []; role = Source; max = 2; cost = 10; supply = 0; demand = 0; fail = 0 }
+
+abbrev lib_twelve : LibraryParts
+lib_twelve =
+    library_parts (replicate 12 type_twelve) [] (template_of (replicate 12 type_twelve) []) (map (λ t. Count t 1 None) (range_with_len 0 12)) []
+
+-- the cost row once, and each base row ten times
+abbrev twelve_pairs : List Pair
+twelve_pairs = record { row = Cost; times = 1 } ∷ map (λ i. record { row = Base i; times = 10 }) (range_with_len 0 12)
+
+twelve-ascent-120 : ascent_of (known_of lib_twelve (Some 120)) whole ≡ Some twelve_pairs
+unfolding base_rows_of has empty
+twelve-ascent-120 = refl
+
+twelve-ascent-121 : ascent_of (known_of lib_twelve (Some 121)) whole ≡ Some twelve_pairs
+unfolding base_rows_of has empty
+twelve-ascent-121 = refl
+
+-- for the bound 120 they say 0 >= 1, for 121 they say 0 >= 0
+twelve-says-120 : combination_of (known_of lib_twelve (Some 120)) twelve_pairs ≡ row [] (pos 1)
+unfolding base_rows_of
+twelve-says-120 = refl
+
+twelve-says-121 : combination_of (known_of lib_twelve (Some 121)) twelve_pairs ≡ row [] (pos 0)
+unfolding base_rows_of
+twelve-says-121 = refl
+
+twelve-refuted-120 : is_ascent_refuted (known_of lib_twelve (Some 120)) whole ≡ true
+unfolding base_rows_of has empty
+twelve-refuted-120 = refl
+
+twelve-refuted-121 : is_ascent_refuted (known_of lib_twelve (Some 121)) whole ≡ false
+unfolding base_rows_of has empty
+twelve-refuted-121 = refl
+
+-- without a bound there is no ascent
+twelve-none : is_ascent_refuted (known_of lib_twelve None) whole ≡ false
+twelve-none = refl

@@ -1,0 +1,10 @@
+pub mod Parts
+pub mod Row
+pub mod Cube
+pub mod Activity
+pub mod BaseRows
+pub mod Known
+pub mod Trace
+pub mod Reason
+pub mod Ascent
+pub mod Problem
