@@ -1,8 +1,10 @@
 // Real files.
-ghost use Rattle.std.specs.Prelude.{◌≡◌, ◌≢◌, ℕ, ◌<◌, ◌≤◌, List, [], length, map, take, string_bytes, IfSome, IfOk, OnOk, OnErr, MatchResult};
+ghost use Rattle.std.specs.Prelude.{◌≡◌, ◌≢◌, ℕ, ◌<◌, ◌≤◌, List, [], length, map, take, string_bytes, IfSome, IfOk};
+ghost use Rattle.std.specs.Prelude.{OnOk, OnErr, MatchResult};
 ghost use Rattle.outside.specs.Faults.{Rose, NeverFall};
 ghost use Rattle.outside.specs.Told.{Finds, Appends, untold};
-ghost use Rattle.outside.specs.Counts.{no_faults, counts_after, after_failed_read, after_failed_write, reads_of, writes_of};
+ghost use Rattle.outside.specs.Counts.{no_faults, counts_after, after_failed_read, after_failed_write, reads_of};
+ghost use Rattle.outside.specs.Counts.{writes_of};
 
 use crate::fault_counts::FaultCounts;
 use crate::faults::{Failed, Memory};

@@ -1,7 +1,8 @@
 // Counts of faults by name.
 ghost use Rattle.std.specs.Prelude.{◌≡◌, ℕ, List, [], position, IfOk, OnOk, OnErr};
 ghost use Rattle.std.specs.Str.{bytes_eq};
-ghost use Rattle.outside.specs.Counts.{after_failed_read, after_failed_write, counts_after, counts_with, reads_of, writes_of};
+ghost use Rattle.outside.specs.Counts.{after_failed_read, after_failed_write, counts_after, counts_with, reads_of};
+ghost use Rattle.outside.specs.Counts.{writes_of};
 ghost use Rattle.outside.specs.Faults.{Rose, NeverFall};
 
 use crate::counts::Counts;

@@ -1,9 +1,11 @@
 // A shelf in memory, for tests.
-ghost use Rattle.std.specs.Prelude.{◌≡◌, ℕ, ◌<◌, ◌≤◌, List, [], length, take, position, is_ok, None, Some, IfSome, IfOk, OnOk, OnErr, MatchResult, option_map};
+ghost use Rattle.std.specs.Prelude.{◌≡◌, ℕ, ◌<◌, ◌≤◌, List, [], length, take, position, is_ok, None, Some, IfSome};
+ghost use Rattle.std.specs.Prelude.{IfOk, OnOk, OnErr, MatchResult, option_map};
 ghost use Rattle.std.specs.Str.{bytes_eq};
 ghost use Rattle.outside.specs.Faults.{Rose, NeverFall};
 ghost use Rattle.outside.specs.Told.{Finds, Appends, OthersStay};
-ghost use Rattle.outside.specs.Kept.{new_shelf, told_of, read_faults_of, write_faults_of, call_passes, append_passes, after_put, after_read, after_fresh, after_append};
+ghost use Rattle.outside.specs.Kept.{new_shelf, told_of, read_faults_of, write_faults_of, call_passes, append_passes};
+ghost use Rattle.outside.specs.Kept.{after_put, after_read, after_fresh, after_append};
 
 use crate::copies::copy_from;
 use crate::counts::Counts;

@@ -51,7 +51,9 @@ pub(crate) fn count(lib: &Library, arch: &Architecture, t: u32) -> usize
 
 // Whether an instance of b is present where one of a is.
 pub(crate) fn implies(lib: &Library, arch: &Architecture, a: u32, b: u32) -> bool
-    ensures { IsTrue result ↔ (0 < count_by (λ c. nat_eq c.of a) (present_components lib.now arch.now) → 0 < count_by (λ c. nat_eq c.of b) (present_components lib.now arch.now)) }
+    ensures { IsTrue result
+        ↔ (0 < count_by (λ c. nat_eq c.of a) (present_components lib.now arch.now) → 0 < count_by
+        (λ c. nat_eq c.of b) (present_components lib.now arch.now)) }
 {
     count(lib, arch, a) == 0 || count(lib, arch, b) > 0
 }

@@ -62,7 +62,8 @@ pub(crate) fn in_degrees_fit(
     min: u32,
     max: Option<u32>,
 ) -> bool
-    ensures { IsTrue result ↔ spec.EachPresent lib.now arch.now of (λ i. spec.IsBetween min max (spec.in_degree lib.now arch.now from i)) }
+    ensures { IsTrue result ↔ spec.EachPresent lib.now arch.now of
+        (λ i. spec.IsBetween min max (spec.in_degree lib.now arch.now from i)) }
 {
     for i in 0..lib.components().len() as u32 {
         let i = CompId(i);
@@ -82,7 +83,8 @@ pub(crate) fn out_degrees_fit(
     min: u32,
     max: Option<u32>,
 ) -> bool
-    ensures { IsTrue result ↔ spec.EachPresent lib.now arch.now of (λ i. spec.IsBetween min max (spec.out_degree lib.now arch.now to i)) }
+    ensures { IsTrue result ↔ spec.EachPresent lib.now arch.now of
+        (λ i. spec.IsBetween min max (spec.out_degree lib.now arch.now to i)) }
 {
     for i in 0..lib.components().len() as u32 {
         let i = CompId(i);
@@ -101,7 +103,8 @@ pub(crate) fn inputs_have_outputs(
     from: u32,
     to: u32,
 ) -> bool
-    ensures { IsTrue result ↔ spec.EachInstance lib.now of (λ i. 0 < spec.in_degree lib.now arch.now from i → 0 < spec.out_degree lib.now arch.now to i) }
+    ensures { IsTrue result ↔ spec.EachInstance lib.now of
+        (λ i. 0 < spec.in_degree lib.now arch.now from i → 0 < spec.out_degree lib.now arch.now to i) }
 {
     for i in 0..lib.components().len() as u32 {
         let i = CompId(i);
@@ -117,7 +120,8 @@ pub(crate) fn inputs_have_outputs(
 
 // Whether no instance has present edges both from an instance of a and from one of b.
 pub(crate) fn inputs_exclude(lib: &Library, arch: &Architecture, of: u32, a: u32, b: u32) -> bool
-    ensures { IsTrue result ↔ spec.EachInstance lib.now of (λ i. 0 < spec.in_degree lib.now arch.now a i → spec.in_degree lib.now arch.now b i ≡ 0) }
+    ensures { IsTrue result ↔ spec.EachInstance lib.now of
+        (λ i. 0 < spec.in_degree lib.now arch.now a i → spec.in_degree lib.now arch.now b i ≡ 0) }
 {
     for i in 0..lib.components().len() as u32 {
         let i = CompId(i);
@@ -133,7 +137,8 @@ pub(crate) fn inputs_exclude(lib: &Library, arch: &Architecture, of: u32, a: u32
 
 // Whether an edge is absent, or goes elsewhere than from one component to another.
 fn is_allowed(edge: &Edge, chosen: &EdgeSet, e: u32, tail: CompId, head: CompId) -> bool
-    ensures { result ≡ (not (set.has chosen.now e) || not (nat_eq edge.now.tail.0 tail.0 && nat_eq edge.now.head.0 head.0)) }
+    ensures { result
+        ≡ (not (set.has chosen.now e) || not (nat_eq edge.now.tail.0 tail.0 && nat_eq edge.now.head.0 head.0)) }
 {
     !chosen.has(EdgeId(e)) || !(edge.tail == tail && edge.head == head)
 }

@@ -38,7 +38,8 @@ pub fn meets_pattern(lib: &Library, arch: &Architecture, p: &Pattern) -> bool
 pub fn first_broken(lib: &Library, arch: &Architecture) -> Option<usize>
     requires { IsArchitecture lib.now arch.now }
     ensures none { IfNone result (All (MeetsPattern lib.now arch.now) lib.now.patterns) }
-    ensures broken { IfSome result (λ k. IsSomeAnd (slice_get lib.now.patterns k) (λ p. ¬ MeetsPattern lib.now arch.now p)) }
+    ensures broken { IfSome result
+        (λ k. IsSomeAnd (slice_get lib.now.patterns k) (λ p. ¬ MeetsPattern lib.now arch.now p)) }
     ensures first { IfSome result (λ k. All (MeetsPattern lib.now arch.now) (take k lib.now.patterns)) }
 {
     let patterns = lib.patterns();

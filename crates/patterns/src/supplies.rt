@@ -28,7 +28,8 @@ fn demand(lib: &Library, c: CompId) -> u64
 
 // What an edge brings to component i.
 fn brought(lib: &Library, edge: &Edge, i: CompId) -> u64
-    ensures { result ≡ (if nat_eq edge.now.head.0 i.0 then spec.at_component lib.now (λ c. c.supply) edge.now.tail.0 else 0) }
+    ensures { result
+        ≡ (if nat_eq edge.now.head.0 i.0 then spec.at_component lib.now (λ c. c.supply) edge.now.tail.0 else 0) }
 {
     if edge.head == i {
         supply(lib, edge.tail)
@@ -39,7 +40,8 @@ fn brought(lib: &Library, edge: &Edge, i: CompId) -> u64
 
 // What an edge asks of component i.
 fn asked(lib: &Library, edge: &Edge, i: CompId) -> u64
-    ensures { result ≡ (if nat_eq edge.now.tail.0 i.0 then spec.at_component lib.now (λ c. c.demand) edge.now.head.0 else 0) }
+    ensures { result
+        ≡ (if nat_eq edge.now.tail.0 i.0 then spec.at_component lib.now (λ c. c.demand) edge.now.head.0 else 0) }
 {
     if edge.tail == i {
         demand(lib, edge.head)
@@ -50,7 +52,8 @@ fn asked(lib: &Library, edge: &Edge, i: CompId) -> u64
 
 // What the present edges bring to component i.
 fn supply_into(lib: &Library, arch: &Architecture, i: CompId) -> u64
-    ensures { result ≡ sum_by (λ e. spec.at_component lib.now (λ c. c.supply) e.tail.0) (spec.edges_into lib.now arch.now i.0) }
+    ensures { result ≡ sum_by
+        (λ e. spec.at_component lib.now (λ c. c.supply) e.tail.0) (spec.edges_into lib.now arch.now i.0) }
 {
     let edges = lib.edges();
     let chosen = arch.edges();
@@ -65,7 +68,8 @@ fn supply_into(lib: &Library, arch: &Architecture, i: CompId) -> u64
 
 // What the present edges ask of component i.
 fn demand_out_of(lib: &Library, arch: &Architecture, i: CompId) -> u64
-    ensures { result ≡ sum_by (λ e. spec.at_component lib.now (λ c. c.demand) e.head.0) (spec.edges_out_of lib.now arch.now i.0) }
+    ensures { result ≡ sum_by
+        (λ e. spec.at_component lib.now (λ c. c.demand) e.head.0) (spec.edges_out_of lib.now arch.now i.0) }
 {
     let edges = lib.edges();
     let chosen = arch.edges();
@@ -96,7 +100,9 @@ pub(crate) fn each_is_supplied(lib: &Library, arch: &Architecture, of: u32) -> b
 
 // Whether the supply of all present components is at least their demand.
 pub(crate) fn is_supplied(lib: &Library, arch: &Architecture) -> bool
-    ensures { IsTrue result ↔ (sum_by (λ c. c.demand) (present_components lib.now arch.now) ≤ sum_by (λ c. c.supply) (present_components lib.now arch.now)) }
+    ensures { IsTrue result
+        ↔ (sum_by (λ c. c.demand) (present_components lib.now arch.now) ≤ sum_by
+        (λ c. c.supply) (present_components lib.now arch.now)) }
 {
     let components = lib.components();
     let chosen = arch.comps();

@@ -15,7 +15,8 @@ use std::test::Fail;
 // A row of a type that never fails.
 fn row(name: &str, role: Role, max: u32, cost: u64, supply: u64, demand: u64) -> TypeRow
     requires { IsTypeName name.now }
-    ensures { result ≡ record { name = name.now; role = role; max = max; cost = cost; supply = supply; demand = demand; fail = 0 } }
+    ensures { result
+        ≡ record { name = name.now; role = role; max = max; cost = cost; supply = supply; demand = demand; fail = 0 } }
 {
     TypeRow {
         name: Name::new(name),
@@ -61,7 +62,16 @@ fn library(rt: &(impl Abort + AllocGlobal), patterns: Vec<Pattern>) -> Result<Li
 
 // An instance of type number t.
 fn instance(row: &TypeRow, t: u32, index: u32) -> Component
-    ensures { result ≡ record { of = t; index = index; role = row.now.role; cost = row.now.cost; supply = row.now.supply; demand = row.now.demand; fail = row.now.fail } }
+    ensures { result
+        ≡ record {
+          of = t;
+          index = index;
+          role = row.now.role;
+          cost = row.now.cost;
+          supply = row.now.supply;
+          demand = row.now.demand;
+          fail = row.now.fail;
+        } }
 {
     Component {
         of: t,

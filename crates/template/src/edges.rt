@@ -18,7 +18,12 @@ fn push_edges_from(
 ) -> Result<(), Memory>
     requires { length components.now ≤ 64 }
     ensures { OnOk result (edges.new.items ≡ edges.old.items
-        ++ map (λ head. record { tail = record { 0 = tail }; head = record { 0 = head }; cost = link.now.cost; fail = link.now.fail })
+        ++ map (λ head. record {
+          tail = record { 0 = tail };
+          head = record { 0 = head };
+          cost = link.now.cost;
+          fail = link.now.fail;
+        })
         (filter (λ head. not (nat_eq head tail)) (instances_of components.now link.now.to))) }
 {
     for (head, component) in components.iter().enumerate() {

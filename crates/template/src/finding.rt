@@ -52,7 +52,8 @@ pub fn find_component(lib: &Library, name: &str) -> Option<CompId>
 
 /// The edge from one component to another; none where the template has no such edge.
 pub fn find_edge(lib: &Library, tail: CompId, head: CompId) -> Option<EdgeId>
-    ensures found { IfSome result (λ e. IsSomeAnd (slice_get lib.now.edges e.0) (λ edge. (edge.tail ≡ tail) × (edge.head ≡ head))) }
+    ensures found { IfSome result
+        (λ e. IsSomeAnd (slice_get lib.now.edges e.0) (λ edge. (edge.tail ≡ tail) × (edge.head ≡ head))) }
     ensures none { IfNone result (All (λ edge. edge.tail ≡ tail → edge.head ≢ head) lib.now.edges) }
 {
     let edges = lib.edges();

@@ -6,5 +6,6 @@ ghost use Rattle.template.specs.Names.{component_name};
 
 /// Two components of a library differ in their names.
 pub fn names_differ()
-    ensures { (lib : LibraryParts) → IsLibrary lib → (c d : ℕ) → c < length lib.components → d < length lib.components → component_name lib c ≡ component_name lib d → c ≡ d }
+    ensures { (lib : LibraryParts) → IsLibrary lib → (c d : ℕ) → c < length lib.components
+        → d < length lib.components → component_name lib c ≡ component_name lib d → c ≡ d }
 {}
