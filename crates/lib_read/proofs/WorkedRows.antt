@@ -2,12 +2,13 @@
 use Rattle.std.proofs.Common.{◌≡◌, codes, [], ◌∷◌, None, Ok, Err, refl}
 use Rattle.std.specs.Str.{chars, is_utf8}
 use Rattle.toml.proofs.OnLiterals.{toml_on_literals}
-use Rattle.arch_model.specs.declared.template.Role.TheVariants.{Middle}
+use Rattle.arch_model.specs.declared.template.Role.TheVariants.{Source, Middle, Sink}
 use Rattle.arch_model.specs.declared.library.TypeRow.{TypeRow}
+use Rattle.arch_model.specs.declared.library.LinkRow.{LinkRow}
 use Rattle.arch_model.specs.declared.library.Pattern.TheVariants.{Count}
 use Rattle.arch_model.specs.Library.{library_parts}
 use Rattle.arch_model.specs.Template.{template_of}
-use Rattle.lib_read.specs.declared.fault.LibClass.TheVariants.{UnknownKey, WrongKind, BadName, Duplicate, Range}
+use Rattle.lib_read.specs.declared.fault.LibClass.TheVariants.{NotToml, UnknownKey, MissingKey, WrongKind, BadName, Duplicate, UnknownName, Range}
 use Rattle.lib_read.specs.declared.fault.TableName.TheVariants.{Library, Types, Links, Patterns}
 use Rattle.lib_read.specs.Tree.{tree_of}
 use Rattle.lib_read.specs.Faults.{fault}
@@ -40,3 +41,34 @@ repeated_pair = refl
 other_kind : library_of (codes "pattern = [{kind = \"some\", type = \"a\"}]") ≡ Err (fault Range Patterns 1 (codes "kind"))
 unfolding toml_on_literals library_of tree_of is_utf8 chars
 other_kind = refl
+
+no_table : library_of (codes "type = [1]") ≡ Err (fault WrongKind Types 1 (codes "-"))
+unfolding toml_on_literals library_of tree_of is_utf8 chars
+no_table = refl
+
+no_keys : library_of (codes "type = [{}]") ≡ Err (fault MissingKey Types 1 (codes "name"))
+unfolding toml_on_literals library_of tree_of is_utf8 chars
+no_keys = refl
+
+no_types : library_of (codes "link = [{from = \"a\", to = \"b\"}]") ≡ Err (fault UnknownName Links 1 (codes "from"))
+unfolding toml_on_literals library_of tree_of is_utf8 chars
+no_types = refl
+
+no_document : library_of (codes "type = [") ≡ Err (fault NotToml Library 0 (codes "-"))
+unfolding toml_on_literals library_of tree_of is_utf8 chars
+no_document = refl
+
+-- a source, a sink and the link between them
+abbrev row_s : TypeRow
+row_s = record { name = codes "s"; role = Source; max = 1; cost = 1; supply = 0; demand = 0; fail = 1000 }
+
+abbrev row_t : TypeRow
+row_t = record { name = codes "t"; role = Sink; max = 1; cost = 0; supply = 0; demand = 0; fail = 0 }
+
+abbrev link_st : LinkRow
+link_st = record { from = 0; to = 1; cost = 0; fail = 0 }
+
+one_link : library_of (codes "type = [\n  {name = \"s\", role = \"source\", cost = 1, fail = 1000},\n  {name = \"t\", role = \"sink\"},\n]\nlink = [{from = \"s\", to = \"t\"}]\n")
+    ≡ Ok (library_parts (row_s ∷ (row_t ∷ [])) (link_st ∷ []) (template_of (row_s ∷ (row_t ∷ [])) (link_st ∷ [])) [] [])
+unfolding toml_on_literals library_of tree_of is_utf8 chars
+one_link = refl

@@ -55,7 +55,7 @@ pub(crate) struct Fault<'a> {
 }
 
 /// Why there is no library.
-#[derive(Clone, Copy, Debug, PartialEq, Eq, Drop, Error)]
+#[derive(Debug, PartialEq, Eq, Drop, Error)]
 pub enum LibError {
     /// Want of memory, which says nothing of the file.
     #[error("out of memory")]
@@ -63,6 +63,16 @@ pub enum LibError {
     /// The bytes aren't a library: `library_of` gives them a fault.
     #[error("not a library")]
     Refused,
+}
+
+impl From<Memory> for LibError {
+    ghost use Rattle.lib_read.specs.declared.fault.LibError.TheVariants as error;
+
+    ghost from_gives = { λ _ e. e ≡ error.Memory };
+
+    fn from(_memory: Memory) -> Self {
+        LibError::Memory
+    }
 }
 
 /// What ends a reading before it has a library.
