@@ -5,7 +5,8 @@ use Rattle.arch_model.specs.Set.{has}
 use Rattle.arch_model.specs.Member.{member_count}
 use Rattle.rows.specs.declared.known.RowRef.{RowRef}
 use Rattle.rows.specs.declared.known.RowRef.TheVariants.{Base, Cut, Cost}
-use Rattle.rows.specs.Parts.{RowParts, CutParts, CubeParts, KnownParts}
+use Rattle.rows.specs.declared.known.Known.{Known}
+use Rattle.rows.specs.Parts.{RowParts, CutParts, CubeParts, CutListParts, ProblemParts, KnownParts}
 use Rattle.rows.specs.Row.{row_of_cut}
 use Rattle.rows.specs.Activity.{IsQuietAt}
 use Rattle.rows.specs.BaseRows.{cost_row_of}
@@ -46,3 +47,10 @@ pub record IsCutBelow (n : ℕ) (cut : CutParts) : Type 0 where
 pub record IsKnown (known : KnownParts) : Type 0 where
   pub upto : known.upto ≤ length known.cuts
   pub cuts : All (IsCutBelow (variables known)) known.cuts
+
+-- what the fields of what is passed as known say
+abbrev pub known_parts : ProblemParts → CutListParts → ℕ → Option ℕ → KnownParts
+known_parts problem cuts upto bound = record { problem = problem; cuts = cuts.cuts; upto = upto; bound = bound }
+
+abbrev pub parts_of : Known → KnownParts
+parts_of known = known_parts known.problem.now known.cuts.now known.upto known.bound

@@ -1,5 +1,6 @@
 pub mod Parts
 pub mod Row
+pub mod Cut
 pub mod Cube
 pub mod Activity
 pub mod BaseRows

@@ -28,3 +28,6 @@ pub record DecidePatterns (lib : LibraryParts) (rows : List RowParts) : Type 0 w
 -- a problem: its rows decide its library's patterns
 abbrev pub IsProblem : ProblemParts → Type 0
 IsProblem problem = DecidePatterns problem.library problem.base
+
+abbrev pub problem_parts : LibraryParts → List RowParts → ProblemParts
+problem_parts library base = record { library = library; base = base }

@@ -42,7 +42,10 @@ collected n terms = filter (λ t. is_nonzero t.coef) (map (λ v. term v (coef_at
 abbrev pub row_of : ℕ → List Term → ℤ → RowParts
 row_of n terms least = record { terms = collected n terms; least = least }
 
--- how large a number of a row may be
+abbrev pub row_parts : List Term → ℤ → RowParts
+row_parts terms least = record { terms = terms; least = least }
+
+-- how large a number of a row may be: at most 10^16 in absolute value
 abbrev pub IsSized : ℤ → Type 0
 IsSized a = unsigned_abs a ≤ 10 ^ 16
 

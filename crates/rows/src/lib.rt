@@ -1,8 +1,16 @@
 //! The rows of the 0-1 program: the language in which the search, the log and the checker speak.
 #![tactic(auto)]
 
+mod cube;
+mod cut;
+mod judge;
 mod known;
+mod problem;
 mod row;
 
-pub use known::{Pair, RowRef};
-pub use row::Term;
+pub use cube::Cube;
+pub use cut::{CUTS, CutList, CutRow};
+pub use judge::has;
+pub use known::{Known, Pair, Reason, RowRef, Trace};
+pub use problem::Problem;
+pub use row::{Row, Term};
