@@ -103,7 +103,7 @@ differ status m n e f ne = ne (ap (λ (s : Status). s.0) (sym e ∙ f))
 
 -- which status always comes
 one_name : (words : List (List ℕ)) (a b : List ℕ) → AskToSolve words a → AskToSolve words b → a ≡ b
-one_name words a b first second = let e = sym first.shape ∙ second.shape in cc
+one_name words a b first second = let e = sym first ∙ second in cc
 
 refused_completes : {E : Type 0} (read : Result LibraryParts E) (status : Status) → IsErr read → (status ≡ record { 0 = 3 }) ⊎ (status ≡ record { 0 = 7 }) → MatchResult read (λ lib. Solves lib status) (λ _. (status ≡ record { 0 = 3 }) ⊎ (status ≡ record { 0 = 7 }))
 refused_completes (Ok lib) status refused ends = absurd (let t : false ≡ true = refused in cc)

@@ -1,28 +1,18 @@
--- Words as a list of two.
-use Rattle.std.proofs.Common.{◌≡◌, ◌≢◌, ℕ, ◌<◌, ◌≤◌, List, [], ◌∷◌, length, get_or, refl, sym, ap, ◌∙◌, arith, true, false, String, string_bytes, codes, nat_eq}
-use Rattle.std.specs.declared.alloc.Global.{Global}
-use Rattle.std.specs.Cmp.Lexicographic.{pointwise, bytes_decides}
-use Rattle.std.proofs.Math.Dec.{eqb}
-use Rattle.archex_app.specs.Words.{texts, AskToSolve, AreRefused}
+-- The place of a word, in one digit.
+use Rattle.std.proofs.Common.{◌≡◌, ℕ, ◌+◌, ◌/◌, ◌%◌, ◌<◌, ◌≤◌, true, nat_lt, List, [], ◌∷◌, ◌++◌, codes, refl, ap, arith, ◌∙◌, sym, subst, inl, inr, ◌⊎◌, Option}
+use Rattle.std.specs.Fmt.{decimal, digits}
+use Rattle.std.proofs.lemmas.Bool.{lt-ltb}
+use Rattle.outside.specs.Told.{Appends}
+use Rattle.archex_app.specs.Words.{refused_words_text}
 
-two : {X : Type 0} (ws : List X) (a b : X) → 2 ≤ length ws → length ws < 3 → a ≡ get_or ws 0 a → b ≡ get_or ws 1 b → ws ≡ a ∷ b ∷ []
-two [] a b some few h k = absurd (omega arith)
-two (x ∷ []) a b some few h k = absurd (omega arith)
-two (x ∷ y ∷ []) a b some few h k = cc
-two (x ∷ y ∷ z ∷ ws) a b some few h k = absurd (omega arith)
+one_digit : (n : ℕ) → n ≤ 9 → decimal n ≡ (48 + n) ∷ []
+unfolding digits
+one_digit n h =
+    let d : n / 10 ≡ 0 = omega arith in
+    let m : n % 10 ≡ n = omega arith in
+    let small : n < 10 = omega arith in
+    rw (d, m, lt-ltb n 10 small) refl
 
--- two words of which the first is `solve`
-pub asks : (ws : List (String Global)) (a b : String Global) (first name : List ℕ) → 2 ≤ length ws → length ws < 3 → a ≡ get_or ws 0 a → b ≡ get_or ws 1 b
-    → first ≡ string_bytes a → true ≡ pointwise eqb first (codes "solve") → name ≡ string_bytes b → texts ws ≡ codes "solve" ∷ name ∷ []
-asks ws a b first name some few h k e f n =
-    ap texts (two ws a b some few h k)
-    ∙ ap (λ t. t ∷ string_bytes b ∷ []) (sym e ∙ (bytes_decides first (codes "solve")).0 (sym f))
-    ∙ ap (λ t. codes "solve" ∷ t ∷ []) (sym n)
-
--- a text that was found not to be empty
-pub some_word : (a b text : List ℕ) → false ≡ nat_eq (length a) 0 → a ≡ text → b ≡ text → b ≢ []
-some_word a b text h e f none =
-    let long : length a ≡ 0 = ap length (e ∙ sym f ∙ none) in
-    let zero_is : nat_eq (length a) 0 ≡ true = ap (λ n. nat_eq n 0) long in
-    let t : false ≡ true = h ∙ zero_is in
-    cc
+-- the text that refuses words, with its digit
+pub digit_text : (place : ℕ) → place ≤ 9 → refused_words_text place ≡ codes "refused words " ++ (48 + place) ∷ [] ++ codes "\n"
+digit_text place h = ap (λ d. codes "refused words " ++ d ++ codes "\n") (one_digit place h)

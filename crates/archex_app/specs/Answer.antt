@@ -4,9 +4,9 @@ use Rattle.arch_model.specs.Parts.{LibraryParts, ArchitectureParts}
 use Rattle.outside.specs.Faults.{Rose}
 use Rattle.outside.specs.Told.{Appends}
 use Rattle.lib_read.specs.LibraryOf.{library_of}
-use Rattle.archex_app.specs.Words.{AskToSolve, AreRefused}
+use Rattle.archex_app.specs.Words.{AskToSolve, RefusesWords}
 use Rattle.archex_app.specs.Cheapest.{MeetsPatterns, IsCheapest}
-use Rattle.archex_app.specs.Report.{optimal_text, infeasible_text, refused_library_text, refused_words_text}
+use Rattle.archex_app.specs.Report.{optimal_text, infeasible_text, refused_library_text}
 
 -- the bytes are a library, and the text is the report of an architecture that meets its patterns at least cost
 pub record ShowsCheapest (bytes text : List ℕ) : Type 0 where
@@ -50,7 +50,7 @@ pub record Prints (Shows : List ℕ → List ℕ → Type 0) (words : List (List
 pub record PrintsFront (words : List (List ℕ)) (told : List ℕ → Option (List ℕ)) (before now : Option (List ℕ)) : Type 0 where
   pub front : List ℕ
   pub rest : List ℕ
-  pub due : (AreRefused words × (front ++ rest ≡ refused_words_text)) ⊎ IsDue ShowsAnswer words told (front ++ rest)
+  pub due : RefusesWords words (front ++ rest) ⊎ IsDue ShowsAnswer words told (front ++ rest)
   pub printed : Appends before now front
 
 -- a read of the library that the words name failed in this run

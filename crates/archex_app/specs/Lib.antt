@@ -1,4 +1,5 @@
 pub mod Words
+pub mod Commands
 pub mod Cheapest
 pub mod Report
 pub mod Answer

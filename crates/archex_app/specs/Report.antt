@@ -30,9 +30,6 @@ optimal_text lib arch = codes "status optimal\ncost " ++ decimal (cost_of lib ar
 abbrev pub infeasible_text : List ℕ
 infeasible_text = codes "status infeasible\n"
 
--- the texts of the two refusals
+-- the text that refuses a library
 abbrev pub refused_library_text : List ℕ
 refused_library_text = codes "refused library\n"
-
-abbrev pub refused_words_text : List ℕ
-refused_words_text = codes "refused words\n"

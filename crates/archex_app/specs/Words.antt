@@ -1,16 +1,48 @@
 -- The words of a command.
-use Rattle.std.specs.Prelude.{◌≡◌, ◌≢◌, ℕ, List, [], ◌∷◌, map, codes, String, string_bytes}
+use Rattle.std.specs.Prelude.{◌≡◌, ℕ, ◌+◌, nat_lt, not, Bool, List, [], ◌∷◌, ◌++◌, map, length, codes, String, string_bytes, Option, Some, None, Result, Ok, Err, if◌then◌else◌}
+use Rattle.std.specs.Str.{bytes_eq}
+use Rattle.std.specs.Fmt.{decimal}
 use Rattle.std.specs.declared.alloc.Global.{Global}
 
 -- the bytes of each word
 abbrev pub texts : List (String Global) → List (List ℕ)
 texts words = map (λ (w : String Global). string_bytes w) words
 
--- the words ask to solve the library of that name: `solve`, and one word that isn't empty
-pub record AskToSolve (words : List (List ℕ)) (name : List ℕ) : Type 0 where
-  pub shape : words ≡ codes "solve" ∷ name ∷ []
-  pub some : name ≢ []
+-- what the words may ask for: to solve the library of a name
+pub data Asked : Type 0 where
+  solve : List ℕ → Asked
 
--- the words ask for nothing that there is
-abbrev pub AreRefused : List (List ℕ) → Type 0
-AreRefused words = (name : List ℕ) → AskToSolve words name → ⊥
+-- the place of the leftmost word, from this place on, that is empty
+abbrev pub empty_word : ℕ → List (List ℕ) → Option ℕ
+empty_word place [] = None
+empty_word place (word ∷ words) = if nat_lt 0 (length word) then empty_word (place + 1) words else Some place
+
+-- the place of the first fault among the words after a command that takes so many: one past the last where a word is missing, then the first word too many, then the leftmost bad one
+abbrev pub fault_place : ℕ → List (List ℕ) → Option ℕ
+fault_place wanted args =
+    if nat_lt (length args) wanted then Some (length args + 2)
+    else if nat_lt wanted (length args) then Some (wanted + 2)
+    else empty_word 2 args
+
+-- the words after `solve`: one, the library's name
+abbrev pub solve_of : List (List ℕ) → Option ℕ → Result Asked ℕ
+solve_of args (Some place) = Err place
+solve_of (lib ∷ args) None = Ok (solve lib)
+solve_of [] None = Err 2
+
+-- what the words ask for, or the place, counted from 1, of the first that isn't as it should be: the command comes first
+abbrev pub command_of : List (List ℕ) → Result Asked ℕ
+command_of [] = Err 1
+command_of (command ∷ args) = if bytes_eq command (codes "solve") then solve_of args (fault_place 1 args) else Err 1
+
+-- the words ask to solve the library of that name
+abbrev pub AskToSolve : List (List ℕ) → List ℕ → Type 0
+AskToSolve words name = command_of words ≡ Ok (solve name)
+
+-- the text that refuses words for the one at a place
+abbrev pub refused_words_text : ℕ → List ℕ
+refused_words_text place = codes "refused words " ++ decimal place ++ codes "\n"
+
+-- the words are refused, with this text
+abbrev pub RefusesWords : List (List ℕ) → List ℕ → Type 0
+RefusesWords words text = (place : ℕ) × (command_of words ≡ Err place) × (text ≡ refused_words_text place)

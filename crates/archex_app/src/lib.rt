@@ -26,6 +26,7 @@ mod words;
 pub use run::run_plain;
 pub use status::Status;
 pub use sure::run_surely;
+pub use words::{Command, WordFault, read_words};
 
 #[cfg(test)]
 mod tests;

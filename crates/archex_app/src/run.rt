@@ -1,9 +1,8 @@
 // The top call.
-ghost use Rattle.std.specs.Prelude.{◌≡◌, ℕ, ◌≤◌, ◌++◌, ◌⊎◌, List};
+ghost use Rattle.std.specs.Prelude.{◌≡◌, ℕ, ◌≤◌, ◌++◌, ◌⊎◌, IsErr, List};
 ghost use Rattle.outside.specs.Faults.{Rose};
 ghost use Rattle.outside.specs.Told.{Appends};
-ghost use Rattle.archex_app.specs.Words.{texts, AskToSolve, AreRefused};
-ghost use Rattle.archex_app.specs.Report.{refused_words_text};
+ghost use Rattle.archex_app.specs.Words.{texts, command_of, refused_words_text, AskToSolve, RefusesWords};
 ghost use Rattle.archex_app.specs.Status.{IsStatus};
 ghost use Rattle.archex_app.specs.Complete.{Completes};
 ghost use Rattle.archex_app.specs.Answer.{ShowsCheapest, ShowsInfeasible, ShowsRefusal, Prints, PrintsFront};
@@ -13,21 +12,36 @@ use crate::printing::print_all;
 use crate::reading::ReadError;
 use crate::solve::solve;
 use crate::status::Status;
-use crate::words::library_word;
+use crate::words::{WordFault, read_words};
 use outside::{Shelf, Sink};
 use std::alloc::Global;
 
 // Prints a text, and answers the status that goes with it, or that it couldn't be printed whole.
-fn print<O: Sink>(out: &mut O, text: &str, status: Status) -> Status
+fn print<O: Sink>(out: &mut O, text: &[u8], status: Status) -> Status
     ensures ends { ((result ≡ status) × Appends (O.told out.old) (O.told out.new) text.now)
         ⊎ ((result ≡ Status.WRITE_FAULT) × Rose (O.faults out.old) (O.faults out.new)
         × ((front rest : List ℕ) × (text.now ≡ front ++ rest) × Appends (O.told out.old) (O.told out.new) front)) }
     ensures never_falls { O.faults out.old ≤ O.faults out.new }
 {
-    match print_all(out, text.as_bytes()) {
+    match print_all(out, text) {
         Ok(()) => status,
         Err(_) => Status::WRITE_FAULT,
     }
+}
+
+// Prints that the words are refused, and for which place. It takes no memory.
+fn refuse_words<O: Sink>(out: &mut O, fault: WordFault) -> Status
+    requires { (1 ≤ fault.place) × (fault.place ≤ 9) }
+    ensures ends { ((result ≡ Status.REFUSED_WORDS)
+        × Appends (O.told out.old) (O.told out.new) (refused_words_text fault.place))
+        ⊎ ((result ≡ Status.WRITE_FAULT) × Rose (O.faults out.old) (O.faults out.new)
+        × ((front rest : List ℕ) × (refused_words_text fault.place ≡ front ++ rest)
+        × Appends (O.told out.old) (O.told out.new) front)) }
+    ensures never_falls { O.faults out.old ≤ O.faults out.new }
+{
+    let mut text = *b"refused words 0\n";
+    text[14] = b'0' + fault.place as u8;
+    print(out, &text, Status::REFUSED_WORDS)
 }
 
 /// Does what the words ask, with one worker: `solve LIB` reads the library LIB from the shelf, searches for an
@@ -48,7 +62,7 @@ pub fn run_plain<F: Shelf, O: Sink>(
     ensures refused_library { result ≡ Status.REFUSED_LIBRARY
         → Prints ShowsRefusal (texts words.now) (F.told shelf.old) (O.told out.old) (O.told out.new) }
     ensures refused_words { result ≡ Status.REFUSED_WORDS
-        → AreRefused (texts words.now) × Appends (O.told out.old) (O.told out.new) refused_words_text }
+        → (text : List ℕ) × RefusesWords (texts words.now) text × Appends (O.told out.old) (O.told out.new) text }
     ensures read_fault { result ≡ Status.READ_FAULT
         → ReadFailed (texts words.now) (F.read_faults shelf.old) (F.read_faults shelf.new) }
     ensures write_fault { result ≡ Status.WRITE_FAULT → Rose (O.faults out.old) (O.faults out.new) }
@@ -60,7 +74,7 @@ pub fn run_plain<F: Shelf, O: Sink>(
     // There is no other status. Refused words are refused, and a library that the shelf tells is solved or refused,
     // where no call of the outside failed and there was memory.
     ensures statuses { IsStatus result }
-    ensures words_first { AreRefused (texts words.now)
+    ensures words_first { IsErr (command_of (texts words.now))
         → (result ≡ Status.REFUSED_WORDS) ⊎ (result ≡ Status.WRITE_FAULT) }
     ensures complete { (name bytes : List ℕ) → AskToSolve (texts words.now) name → F.told shelf.old name ≡ Some bytes
         → ¬ Rose (F.read_faults shelf.old name) (F.read_faults shelf.new name)
@@ -72,11 +86,12 @@ pub fn run_plain<F: Shelf, O: Sink>(
     ensures writes_never_fall { (name : List ℕ) → F.write_faults shelf.old name ≤ F.write_faults shelf.new name }
     ensures never_falls { O.faults out.old ≤ O.faults out.new }
 {
-    let Some(name) = library_word(words) else {
-        return print(out, "refused words\n", Status::REFUSED_WORDS);
+    let command = match read_words(words) {
+        Ok(command) => command,
+        Err(fault) => return refuse_words(out, fault),
     };
-    match solve(alloc, shelf, name) {
-        Ok(outcome) => print(out, outcome.text(), outcome.status()),
+    match solve(alloc, shelf, command.library()) {
+        Ok(outcome) => print(out, outcome.text().as_bytes(), outcome.status()),
         Err(ReadError::Failed) => Status::READ_FAULT,
         Err(ReadError::Memory) => Status::NO_MEMORY,
     }

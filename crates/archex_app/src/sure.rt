@@ -1,7 +1,7 @@
 // The top call where nothing outside can fail.
-ghost use Rattle.std.specs.Prelude.{◌≡◌, ℕ, List, Some};
+ghost use Rattle.std.specs.Prelude.{◌≡◌, ℕ, List, Some, IsErr};
 ghost use Rattle.outside.specs.Sure.{sure_told};
-ghost use Rattle.archex_app.specs.Words.{texts, AskToSolve, AreRefused};
+ghost use Rattle.archex_app.specs.Words.{texts, command_of, AskToSolve};
 ghost use Rattle.archex_app.specs.Complete.{Completes};
 
 use crate::run::run_plain;
@@ -18,7 +18,7 @@ pub fn run_surely(
     shelf: &mut SureShelf,
     out: &mut SureSink,
 ) -> Status
-    ensures words_first { AreRefused (texts words.now) → result ≡ Status.REFUSED_WORDS }
+    ensures words_first { IsErr (command_of (texts words.now)) → result ≡ Status.REFUSED_WORDS }
     ensures complete { (name bytes : List ℕ) → AskToSolve (texts words.now) name → sure_told shelf.old name
         ≡ Some bytes → Completes bytes result }
 {

@@ -136,22 +136,23 @@ fn too_large_a_file_is_refused(rt: HostRuntime) -> Result<(), Fail> {
     Ok(())
 }
 
-// Words other than `solve` and one word that isn't empty are refused, whatever the shelf has.
+// Words other than `solve` and one word that isn't empty are refused, whatever the shelf has: for the command first, then
+// for a missing word, one past the last, then for the first word too many, then for the leftmost bad one.
 #[test]
 fn other_words_are_refused(rt: HostRuntime) -> Result<(), Fail> {
-    let rows: [&[&str]; 7] = [
-        &[],
-        &["solve"],
-        &["solve", ""],
-        &["solve", "x.toml", "x.log"],
-        &["Solve", "x.toml"],
-        &["", "x.toml"],
-        &["--help"],
+    let rows: [(&[&str], &[u8]); 7] = [
+        (&[], b"refused words 1\n"),
+        (&["solve"], b"refused words 2\n"),
+        (&["solve", ""], b"refused words 2\n"),
+        (&["solve", "x.toml", "x.log"], b"refused words 3\n"),
+        (&["Solve", "x.toml"], b"refused words 1\n"),
+        (&["", "x.toml"], b"refused words 1\n"),
+        (&["--help"], b"refused words 1\n"),
     ];
-    for words in rows {
+    for (words, text) in rows {
         let (ended, printed) = run_on(rt.alloc(), words, X, &[], &[])?;
         assert_eq!(rt; ended, Status::REFUSED_WORDS);
-        assert_eq!(rt; printed.as_slice(), b"refused words\n".as_slice());
+        assert_eq!(rt; printed.as_slice(), text);
     }
     Ok(())
 }

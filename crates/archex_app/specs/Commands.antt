@@ -1,0 +1,7 @@
+-- What a command that was read asks for.
+use Rattle.archex_app.specs.declared.words.Command.{Command}
+use Rattle.archex_app.specs.declared.words.Command.TheVariants.{Solve}
+use Rattle.archex_app.specs.Words.{Asked, solve}
+
+abbrev pub asked : Command → Asked
+asked (Solve lib) = solve lib.now
