@@ -1,7 +1,7 @@
 -- What stays of sets when a variable is put into them.
-use Rattle.std.proofs.Common.{◌≡◌, ℕ, pos, negsuc, Bool, true, false, nat_eq, sym, ap, ◌∙◌, refl, inl, inr, cond, eqb-true}
-use Rattle.arch_model.specs.Set.{Set, has, put}
-use Rattle.arch_model.proofs.SetLaws.{has-put}
+use Rattle.std.proofs.Common.{◌≡◌, ◌<◌, arith, ℕ, pos, negsuc, Bool, true, false, nat_eq, sym, ap, ◌∙◌, refl, inl, inr, cond, eqb-true}
+use Rattle.arch_model.specs.Set.{Set, has, empty, put}
+use Rattle.arch_model.proofs.SetLaws.{has-put, has-empty}
 use Rattle.arch_model.proofs.Members.{or_left, or_right, or_cases}
 use Rattle.rows.specs.Parts.{CutParts}
 use Rattle.rows.specs.Row.{cut_coef}
@@ -42,3 +42,14 @@ apart_right s t c lacks apart v h = none_of (has (put t c) v) (λ there. elim (o
   | inl old ↦ sym (apart v h) ∙ old
   | inr new ↦ let same : c ≡ v = eqb-true c v new in sym (ap (has s) (sym same) ∙ lacks) ∙ h
 ])
+
+-- members stay below n when one below n is put in
+pub put_below : (s : Set) (c n : ℕ) → c < n → ((v : ℕ) → has s v ≡ true → v < n) → (v : ℕ) → has (put s c) v ≡ true → v < n
+put_below s c n small below v h = elim (or_cases (has s v) (nat_eq c v) (sym (has-put s c v) ∙ h)) [
+  | inl old ↦ below v old
+  | inr new ↦ let same : c ≡ v = eqb-true c v new in omega arith
+]
+
+-- the empty set has no member
+pub no_member : (v : ℕ) → has empty v ≡ true → ⊥
+no_member v h = let e : false ≡ true = sym (has-empty v) ∙ h in cc

@@ -1,5 +1,5 @@
 -- The ascent: a reason found by integer dual ascent, in a fixed order of rows.
-use Rattle.std.specs.Prelude.{ℕ, zero, suc, ◌+◌, ◌-◌, ◌*◌, ◌/◌, ◌^◌, min, ℤ, pos, negsuc, int_lt, Bool, false, ◌&&◌, nat_lt, nat_le, List, [], ◌∷◌, ◌++◌, map, length, get_or, fold, filter_map, Option, Some, None, option_map, if◌then◌else◌}
+use Rattle.std.specs.Prelude.{ℕ, zero, suc, ◌+◌, ◌-◌, ◌*◌, ◌/◌, ◌^◌, min, ℤ, pos, negsuc, int_lt, Bool, false, ◌&&◌, nat_lt, nat_le, List, [], ◌∷◌, ◌++◌, map, length, fold, filter_map, Option, Some, None, option_map, if◌then◌else◌}
 use Rattle.std.specs.List.{enumerate_from}
 use Rattle.std.specs.Option.{option_map_or}
 use Rattle.arch_model.specs.Set.{has}
@@ -10,7 +10,7 @@ use Rattle.rows.specs.declared.known.Pair.{Pair}
 use Rattle.rows.specs.Parts.{RowParts, CubeParts, KnownParts}
 use Rattle.rows.specs.Row.{value_of, coef_at, row_of_cut}
 use Rattle.rows.specs.Cube.{is_free}
-use Rattle.rows.specs.BaseRows.{costs_of}
+use Rattle.rows.specs.BaseRows.{member_cost_of}
 use Rattle.rows.specs.Known.{known_cuts}
 use Rattle.rows.specs.Reason.{is_together}
 
@@ -58,7 +58,7 @@ named_rows known =
 
 -- the first pair is the cost row once, and what is left of each variable is its cost
 abbrev pub ascent_start : KnownParts → Ascent
-ascent_start known = record { pairs = record { row = Cost; times = 1 } ∷ []; residue = λ v. get_or (costs_of known.problem.library) v 0 }
+ascent_start known = record { pairs = record { row = Cost; times = 1 } ∷ []; residue = member_cost_of known.problem.library }
 
 -- the ascent: from there, the rows looked at in turn; none where there is no bound
 abbrev pub ascent_of : KnownParts → CubeParts → Option (List Pair)

@@ -1,5 +1,5 @@
 -- The base rows of a library: its edges, requirements and patterns as rows over the members, numbered in this order.
-use Rattle.std.specs.Prelude.{ℕ, ℤ, pos, negsuc, ◌-ℤ◌, neg_ℤ, Bool, ◌&&◌, nat_eq, nat_lt, List, [], ◌∷◌, ◌++◌, map, filter, length, Option, option_map, option_to_list, if◌then◌else◌}
+use Rattle.std.specs.Prelude.{ℕ, ℤ, pos, negsuc, ◌-ℤ◌, neg_ℤ, Bool, ◌&&◌, nat_eq, nat_lt, List, [], ◌∷◌, ◌++◌, map, filter, length, slice_index, Option, option_map, option_to_list, if◌then◌else◌}
 use Rattle.std.specs.List.{flat_map, enumerate_from}
 use Rattle.arch_model.specs.declared.template.Edge.{Edge}
 use Rattle.arch_model.specs.declared.library.Pattern.{Pattern}
@@ -40,6 +40,10 @@ out_variables lib t i = edge_variables lib (λ e. nat_eq e.tail.0 i && is_instan
 -- what each member costs, in member order
 abbrev pub costs_of : LibraryParts → List ℕ
 costs_of lib = map (λ c. c.cost) lib.components ++ map (λ e. e.cost) lib.edges
+
+-- what member v costs
+abbrev pub member_cost_of : LibraryParts → ℕ → ℕ
+member_cost_of lib v = slice_index (costs_of lib) v
 
 -- minus the cost of all present members
 abbrev pub cost_terms : LibraryParts → List Term

@@ -1,6 +1,7 @@
 -- Cubes: some variables are fixed to 0 or 1, the others are free.
 use Rattle.std.specs.Prelude.{◌≡◌, ℕ, ◌<◌, Bool, not, Option, Some, None, IsTrue, if◌then◌else◌}
 use Rattle.arch_model.specs.Set.{has, empty, put}
+use Rattle.arch_model.specs.declared.limits.TheConstants.{MEMBERS}
 use Rattle.rows.specs.Parts.{CubeParts}
 
 -- the value that a cube gives to variable v, or none where v is free
@@ -11,9 +12,10 @@ value_at cube v = if has cube.fixed v then Some (has cube.ones v) else None
 abbrev pub is_free : CubeParts → ℕ → Bool
 is_free cube v = not (has cube.fixed v)
 
--- only fixed variables are fixed to 1, so that each finite map is one cube
-abbrev pub IsCube : CubeParts → Type 0
-IsCube cube = (v : ℕ) → IsTrue (has cube.ones v) → IsTrue (has cube.fixed v)
+-- only fixed variables are fixed to 1, so that each finite map is one cube; and they are numbers that a variable can have
+pub record IsCube (cube : CubeParts) : Type 0 where
+  pub within : (v : ℕ) → IsTrue (has cube.ones v) → IsTrue (has cube.fixed v)
+  pub small : (v : ℕ) → IsTrue (has cube.fixed v) → v < MEMBERS
 
 -- the cube with nothing fixed
 abbrev pub whole : CubeParts

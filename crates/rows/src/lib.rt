@@ -1,6 +1,7 @@
 //! The rows of the 0-1 program: the language in which the search, the log and the checker speak.
 #![tactic(auto)]
 
+mod cost;
 mod cube;
 mod cut;
 mod judge;
@@ -8,9 +9,10 @@ mod known;
 mod problem;
 mod row;
 
+pub use cost::{member_cost, variable_count};
 pub use cube::Cube;
 pub use cut::{CUTS, CutList, CutRow};
-pub use judge::has;
+pub use judge::{greatest, has, refuted};
 pub use known::{Known, Pair, Reason, RowRef, Trace};
 pub use problem::Problem;
 pub use row::{Row, Term};

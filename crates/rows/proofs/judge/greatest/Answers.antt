@@ -1,0 +1,14 @@
+use Rattle.std.proofs.Common.{◌≡◌, ◌∙◌, ap, FitsSigned, rules}
+use Rattle.std.specs.Int.{w128}
+use Rattle.std.proofs.lemmas.Int.{to_z-of_z}
+use Rattle.rows.specs.Activity.{greatest_activity}
+use Rattle.rows.specs.BaseRows.{cost_row_of}
+use Rattle.rows.specs.Known.{parts_of}
+use Rattle.rows.proofs.KnownRows.{of_cost_row}
+use Rattle.rows.proofs.judge.greatest.Goals as goal
+
+pub returns-in-Cost : goal.returns-in-Cost
+returns-in-Cost c =
+    let fits : FitsSigned w128 c.greatest_of_cost.result = search rules in
+    of_cost_row (λ row. _ ≡ greatest_activity row c.args.cube.now) (parts_of c.args.known.now) c.args.r c.in-Cost.is
+    (λ u. to_z-of_z w128 c.greatest_of_cost.result fits ∙ c.greatest_of_cost.ensures u ∙ ap (λ l. greatest_activity (cost_row_of l u) c.args.cube.now) c.library.ensures.library)

@@ -1,0 +1,46 @@
+// What members cost, and the cost row.
+ghost use Rattle.std.specs.Prelude.{◌≡◌, ℕ, ◌≤◌, ◌<◌, ◌^◌};
+ghost use Rattle.arch_model.specs.Library.{IsLibrary};
+ghost use Rattle.arch_model.specs.Member.{member_count};
+ghost use Rattle.rows.specs.Activity.{greatest_activity};
+ghost use Rattle.rows.specs.BaseRows.{cost_row_of, member_cost_of};
+
+use crate::cube::Cube;
+use crate::judge::best;
+use arch_model::limits::MEMBERS;
+use arch_model::{Library, VarId};
+
+/// The number of members of a library's template, which is that of its variables.
+pub fn variable_count(lib: &Library) -> u32
+    ensures count { result ≡ member_count lib.now }
+    ensures few { result ≤ MEMBERS }
+{
+    (lib.components().len() + lib.edges().len()) as u32
+}
+
+/// What a member costs, in cost units.
+pub fn member_cost(lib: &Library, v: VarId) -> u64
+    requires { v.0 < member_count lib.now }
+    ensures value { result ≡ member_cost_of lib.now v.0 }
+    ensures small { result ≤ 10 ^ 12 }
+{
+    let components = lib.components();
+    let i = v.0 as usize;
+    if i < components.len() {
+        components[i].cost
+    } else {
+        lib.edges()[i - components.len()].cost
+    }
+}
+
+// The greatest value of the cost row's sum, which is the same for each bound.
+pub fn greatest_of_cost(lib: &Library, cube: &Cube) -> i128
+    ensures { (bound : ℕ) → result ≡ greatest_activity (cost_row_of lib.now bound) cube.now }
+{
+    let mut total: i128 = 0;
+    for i in 0..variable_count(lib) {
+        let v = VarId(i);
+        total += best(cube.value(v), -(member_cost(lib, v) as i128));
+    }
+    total
+}
