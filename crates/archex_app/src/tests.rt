@@ -136,8 +136,8 @@ fn too_large_a_file_is_refused(rt: HostRuntime) -> Result<(), Fail> {
     Ok(())
 }
 
-// Words other than `solve` and one word that isn't empty are refused, whatever the shelf has: for the command first, then
-// for a missing word, one past the last, then for the first word too many, then for the leftmost bad one.
+// Words other than `solve` and one word that isn't empty are refused, whatever the shelf has: for the command first,
+// then for a missing word, one past the last, then for the first word too many, then for the leftmost bad one.
 #[test]
 fn other_words_are_refused(rt: HostRuntime) -> Result<(), Fail> {
     let rows: [(&[&str], &[u8]); 7] = [

@@ -166,8 +166,8 @@ impl<V: Held> Gate<V> {
         }
     }
 
-    /// Joins a seat back into the one that it was split off: that has then seen what both saw, and the number is no longer
-    /// away.
+    /// Joins a seat back into the one that it was split off: that has then seen what both saw, and the number is no
+    /// longer away.
     pub fn join(&self, into: &mut GateSeat<V>, from: GateSeat<V>)
         requires gate { (into.old.gate ≡ self.now) × (from.gate ≡ self.now) }
         requires free { (into.old.view.in_turn ≡ false) × (from.view.in_turn ≡ false) }
@@ -197,8 +197,8 @@ impl<V: Held> Gate<V> {
         value
     }
 
-    /// Takes a turn: tries until a try finds an even word, and sleeps between tries. The seat's `found` grows by all that
-    /// they found. It may wait for ever.
+    /// Takes a turn: tries until a try finds an even word, and sleeps between tries. The seat's `found` grows by all
+    /// that they found. It may wait for ever.
     pub fn turn<R: Wait>(&self, rt: &R, seat: GateSeat<V>) -> Turn<V>
         requires gate { seat.gate ≡ self.now }
         requires free { seat.view.in_turn ≡ false }
