@@ -58,7 +58,7 @@ cost_edge_at lib xs es v e k far short =
 abbrev minus_costs : ℕ → List ℕ → List Term
 minus_costs k costs = map (λ p. term p.0 (neg_ℤ (pos p.1))) (enumerate_from k costs)
 
-unlike : (a b : ℕ) → (a ≡ b → ⊥) → nat_eq a b ≡ false
+pub unlike : (a b : ℕ) → (a ≡ b → ⊥) → nat_eq a b ≡ false
 unlike a b ne = elim (eqb_tells a b) [
   | inl w ↦ absurd (ne w.1)
   | inr w ↦ w.0

@@ -5,3 +5,5 @@ pub mod Activities
 pub mod CutActivity
 pub mod Costs
 pub mod KnownRows
+pub mod WhatIsForced
+pub mod ForcedTurns

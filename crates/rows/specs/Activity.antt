@@ -1,8 +1,9 @@
 -- Greatest activities, and what a row refutes and forces in a cube (textbook propagation).
-use Rattle.std.specs.Prelude.{◌≡◌, ℕ, ◌≤◌, ℤ, pos, ◌<ℤ◌, int_lt, Bool, true, false, not, ◌&&◌, map, Option, Some, None, if◌then◌else◌}
+use Rattle.std.specs.Prelude.{◌≡◌, ℕ, ◌≤◌, ℤ, pos, neg_ℤ, ◌-ℤ◌, ◌<ℤ◌, int_lt, Bool, true, false, not, ◌&&◌, map, Option, Some, None, if◌then◌else◌}
 use Rattle.std.specs.Int.{int_max}
 use Rattle.std.specs.Option.{option_map}
 use Rattle.std.specs.List.{find}
+use Rattle.arch_model.specs.declared.sets.VarId.{VarId}
 use Rattle.rows.specs.Parts.{RowParts, CubeParts}
 use Rattle.rows.specs.Row.{int_sum_by}
 use Rattle.rows.specs.Cube.{value_at, is_free, fixed_at}
@@ -44,7 +45,19 @@ pub record IsLeastForced (row : RowParts) (cube : CubeParts) (v : ℕ) (b : Bool
   pub forced : Forces row cube v b
   pub least : (w : ℕ) (c : Bool) → Forces row cube w c → v ≤ w
 
+-- to which value a variable is forced, from whether it is fixed, its coefficient and how far the row's greatest activity is above its least
+abbrev pub forced_value : Bool → ℤ → ℤ → Option Bool
+forced_value fixed a room = if fixed then None else (if int_lt room a then Some true else (if int_lt room (neg_ℤ a) then Some false else None))
+
+-- how far a row's greatest activity is above its least
+abbrev pub room_of : RowParts → CubeParts → ℤ
+room_of row cube = greatest_activity row cube -ℤ row.least
+
 -- a row is quiet in a cube where it is neither refuted there nor forces anything
 pub record IsQuietAt (cube : CubeParts) (row : RowParts) : Type 0 where
   pub open_yet : is_refuted row cube ≡ false
   pub still : least_forced row cube ≡ None
+
+-- a forced variable by its number
+abbrev pub number_of : VarId × Bool → ℕ × Bool
+number_of p = (p.0.0, p.1)

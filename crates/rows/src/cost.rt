@@ -1,5 +1,5 @@
 // What members cost, and the cost row.
-ghost use Rattle.std.specs.Prelude.{◌≡◌, ℕ, ◌≤◌, ◌<◌, ◌^◌};
+ghost use Rattle.std.specs.Prelude.{◌≡◌, ℕ, ◌≤◌, ◌<◌, ◌^◌, unsigned_abs};
 ghost use Rattle.arch_model.specs.Library.{IsLibrary};
 ghost use Rattle.arch_model.specs.Member.{member_count};
 ghost use Rattle.rows.specs.Activity.{greatest_activity};
@@ -35,7 +35,8 @@ pub fn member_cost(lib: &Library, v: VarId) -> u64
 
 // The greatest value of the cost row's sum, which is the same for each bound.
 pub fn greatest_of_cost(lib: &Library, cube: &Cube) -> i128
-    ensures { (bound : ℕ) → result ≡ greatest_activity (cost_row_of lib.now bound) cube.now }
+    ensures value { (bound : ℕ) → result ≡ greatest_activity (cost_row_of lib.now bound) cube.now }
+    ensures small { unsigned_abs result ≤ 2 ^ 118 }
 {
     let mut total: i128 = 0;
     for i in 0..variable_count(lib) {

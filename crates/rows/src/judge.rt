@@ -1,5 +1,5 @@
 // Which rows are known, how great their sums can get in a cube, and which are refuted.
-ghost use Rattle.std.specs.Prelude.{◌≡◌, ℕ, ◌+◌, ◌*◌, ◌≤◌, ◌^◌, ◌<◌, pos, neg_ℤ, ◌-ℤ◌, IfSome, IsTrue, ◌↔◌, if◌then◌else◌, sum_by};
+ghost use Rattle.std.specs.Prelude.{◌≡◌, ℕ, ◌+◌, ◌*◌, ◌≤◌, ◌^◌, ◌<◌, pos, neg_ℤ, ◌-ℤ◌, IfSome, IsTrue, unsigned_abs, ◌↔◌, if◌then◌else◌, sum_by};
 ghost use Rattle.std.specs.List.{enumerate_from};
 ghost use Rattle.rows.specs.Row.{IsRow, IsSized, row_of_cut};
 ghost use Rattle.rows.specs.Cube.{IsCube, value_at};
@@ -40,8 +40,9 @@ pub fn best(value: Option<bool>, coef: i128) -> i128
 }
 
 // The greatest value of a row's sum.
-fn greatest_of_row(row: &Row, cube: &Cube) -> i128
-    ensures { result ≡ greatest_activity row.now cube.now }
+pub fn greatest_of_row(row: &Row, cube: &Cube) -> i128
+    ensures value { result ≡ greatest_activity row.now cube.now }
+    ensures small { unsigned_abs result ≤ 2 ^ 118 }
 {
     let mut total: i128 = 0;
     for term in row.terms() {
@@ -51,8 +52,9 @@ fn greatest_of_row(row: &Row, cube: &Cube) -> i128
 }
 
 // The same for a cut: how many variables of the one set aren't at 0, less how many of the other are at 1.
-fn greatest_of_cut(cut: &CutRow, cube: &Cube) -> i128
-    ensures { result ≡ greatest_activity (row_of_cut cut.now) cube.now }
+pub fn greatest_of_cut(cut: &CutRow, cube: &Cube) -> i128
+    ensures value { result ≡ greatest_activity (row_of_cut cut.now) cube.now }
+    ensures small { unsigned_abs result ≤ 2 ^ 118 }
 {
     let zeros = cube.fixed().minus(&cube.ones());
     let most = cut.plus().minus(&zeros).len();
@@ -63,7 +65,8 @@ fn greatest_of_cut(cut: &CutRow, cube: &Cube) -> i128
 /// The greatest value that a row's sum takes in a cube: fixed variables at their values, free ones at the better one.
 pub fn greatest(known: &Known, r: RowRef, cube: &Cube) -> i128
     requires { IsTrue (has_row (parts_of known.now) r) }
-    ensures { IfSome (row_at (parts_of known.now) r) (λ row. result ≡ greatest_activity row cube.now) }
+    ensures value { IfSome (row_at (parts_of known.now) r) (λ row. result ≡ greatest_activity row cube.now) }
+    ensures small { unsigned_abs result ≤ 2 ^ 118 }
 {
     match r {
         RowRef::Base(i) => greatest_of_row(&known.problem.base()[i as usize], cube),
@@ -75,7 +78,8 @@ pub fn greatest(known: &Known, r: RowRef, cube: &Cube) -> i128
 // What a row's sum must come to at least.
 fn least_of(known: &Known, r: RowRef) -> i128
     requires { IsTrue (has_row (parts_of known.now) r) }
-    ensures { IfSome (row_at (parts_of known.now) r) (λ row. result ≡ row.least) }
+    ensures value { IfSome (row_at (parts_of known.now) r) (λ row. result ≡ row.least) }
+    ensures small { unsigned_abs result ≤ 2 ^ 118 }
 {
     match r {
         RowRef::Base(i) => known.problem.base()[i as usize].least(),

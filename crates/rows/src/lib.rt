@@ -4,6 +4,7 @@
 mod cost;
 mod cube;
 mod cut;
+mod forcing;
 mod judge;
 mod known;
 mod problem;
@@ -12,6 +13,7 @@ mod row;
 pub use cost::{member_cost, variable_count};
 pub use cube::Cube;
 pub use cut::{CUTS, CutList, CutRow};
+pub use forcing::forces;
 pub use judge::{greatest, has, refuted};
 pub use known::{Known, Pair, Reason, RowRef, Trace};
 pub use problem::Problem;

@@ -5,7 +5,6 @@ ghost use Rattle.rows.specs.Problem.{IsProblem, problem_parts};
 
 use crate::row::Row;
 use arch_model::{Library, Memory};
-use std::alloc::Global;
 use std::marker::Model;
 
 /// A library and its base rows. Each value of the type has rows that decide the library's patterns: there are fewer
@@ -54,5 +53,15 @@ impl Problem {
         ensures problem { IsProblem self.now }
     {
         self.base.as_slice()
+    }
+
+    /// A copy in its own memory. The only error is want of memory.
+    pub fn copy(&self) -> Result<Problem, Memory>
+        ensures { IfOk result (λ problem. problem ≡ self.now) }
+    {
+        Ok(Problem {
+            library: self.library.copy()?,
+            base: self.base.clone()?,
+        })
     }
 }

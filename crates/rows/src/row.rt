@@ -1,5 +1,5 @@
 // Terms and rows.
-ghost use Rattle.std.specs.Prelude.{◌≡◌, IfOk};
+ghost use Rattle.std.specs.Prelude.{◌≡◌};
 ghost use Rattle.rows.specs.Row.{IsRow, row_parts};
 
 use arch_model::{Memory, VarId};
@@ -57,11 +57,12 @@ impl Row {
     {
         self.least
     }
+}
 
-    /// A copy in its own memory. The only error is want of memory.
-    pub fn copy(&self) -> Result<Row, Memory>
-        ensures { IfOk result (λ row. row ≡ self.now) }
-    {
+impl Clone for Row {
+    ghost is_clone = { λ a b. b ≡ a };
+
+    fn clone(&self) -> Result<Row, Memory> {
         Ok(Row {
             terms: self.terms.clone()?,
             least: self.least,

@@ -17,7 +17,7 @@ loop-i-preserved c =
       small = sum_small _ c.best-total.result c.loop-i.i c.variable_count-i-end.result c.loop-i.invariant.small small c.loop-i-test.true few;
     }
 
-pub returns : goal.returns
-returns c bound =
+pub returns-clause-value : goal.returns-clause-value
+returns-clause-value c bound =
     let all : c.loop-i.i ≡ member_count c.args.lib.now = omega arith in
     c.loop-i.invariant.sum ∙ ap (λ n. int_sum_by (cost_at c.args.lib.now c.args.cube.now) (range_with_len 0 n)) all ∙ cost_activity c.args.lib.now c.args.cube.now bound

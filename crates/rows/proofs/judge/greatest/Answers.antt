@@ -7,8 +7,8 @@ use Rattle.rows.specs.Known.{parts_of}
 use Rattle.rows.proofs.KnownRows.{of_cost_row}
 use Rattle.rows.proofs.judge.greatest.Goals as goal
 
-pub returns-in-Cost : goal.returns-in-Cost
-returns-in-Cost c =
+pub returns-in-Cost-clause-value : goal.returns-in-Cost-clause-value
+returns-in-Cost-clause-value c =
     let fits : FitsSigned w128 c.greatest_of_cost.result = search rules in
     of_cost_row (λ row. _ ≡ greatest_activity row c.args.cube.now) (parts_of c.args.known.now) c.args.r c.in-Cost.is
-    (λ u. to_z-of_z w128 c.greatest_of_cost.result fits ∙ c.greatest_of_cost.ensures u ∙ ap (λ l. greatest_activity (cost_row_of l u) c.args.cube.now) c.library.ensures.library)
+    (λ u. to_z-of_z w128 c.greatest_of_cost.result fits ∙ c.greatest_of_cost.ensures.value u ∙ ap (λ l. greatest_activity (cost_row_of l u) c.args.cube.now) c.library.ensures.library)

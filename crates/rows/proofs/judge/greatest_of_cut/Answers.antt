@@ -4,8 +4,8 @@ use Rattle.rows.proofs.Activities.{difference_is}
 use Rattle.rows.proofs.CutActivity.{cut_activity}
 use Rattle.rows.proofs.judge.greatest_of_cut.Goals as goal
 
-pub returns : goal.returns
-returns c =
+pub returns-clause-value : goal.returns-clause-value
+returns-clause-value c =
     let most : c.len-most.result ≡ len (minus c.args.cut.now.plus (minus c.args.cube.now.fixed c.args.cube.now.ones)) = cc in
     let least : c.len-least.result ≡ len (intersection c.args.cut.now.minus c.args.cube.now.ones) = cc in
     difference_is c.len-most.result c.len-least.result c.len-most.type_inv c.len-least.type_inv
