@@ -1,0 +1,105 @@
+-- What a search over rows finds: the paths, and what leads to a sink.
+use Rattle.std.proofs.Common.{◌≡◌, ℕ, ◌<◌, Bool, true, false, not, ◌&&◌, ◌||◌, nat_eq, List, [], ◌∷◌, length, sym, ap, ◌∙◌, subst, arith, inl, inr}
+use Rattle.std.specs.List.{All, list_any}
+use Rattle.std.specs.Prelude.{IsTrue, ◌↔◌}
+use Rattle.std.proofs.lemmas.Bool.{eqb-true, eq-eqb}
+use Rattle.arch_model.specs.declared.limits.TheConstants.{COMPONENTS}
+use Rattle.arch_model.specs.declared.template.Edge.{Edge}
+use Rattle.arch_model.specs.Set.{Set, has, put, empty, union}
+use Rattle.arch_model.specs.Parts.{LibraryParts, ArchitectureParts}
+use Rattle.arch_model.specs.Library.{IsLibrary}
+use Rattle.arch_model.specs.Architecture.{IsArchitecture}
+use Rattle.arch_model.specs.Path.{is_source, is_up, live_edges, joins, LeadsTo, IsPath, IsWalk}
+use Rattle.arch_model.proofs.Members.{and_right, and_both, or_left, or_right, or_cases}
+use Rattle.arch_model.proofs.SetLaws.{has-put, has-empty, has-union}
+use Rattle.arch_model.proofs.Ranges.{edge_tails, edge_heads}
+use Rattle.arch_model.proofs.Reaching.{walk_or_path, joins_tail}
+use Rattle.arch_model.proofs.Walks.{walk_map}
+use Rattle.paths.specs.declared.adjacency.Way.{Way}
+use Rattle.paths.specs.declared.adjacency.Way.TheVariants.{Down, Up}
+use Rattle.paths.specs.Spread.{from_of, to_of, leads, live, is_next}
+
+-- both ends of a library's edges are below the limit
+pub froms : (lib : LibraryParts) → IsLibrary lib → (es : List Edge) → es ≡ lib.edges → (way : Way) → All (λ e. from_of way e < COMPONENTS) es
+froms lib h es is Down = subst (All (λ e. e.tail.0 < COMPONENTS)) (sym is) (λ k d short. omega (arith, edge_tails lib h k d short, h.few_components))
+froms lib h es is Up = subst (All (λ e. e.head.0 < COMPONENTS)) (sym is) (λ k d short. omega (arith, edge_heads lib h k d short, h.few_components))
+
+pub tos : (lib : LibraryParts) → IsLibrary lib → (es : List Edge) → es ≡ lib.edges → (way : Way) → All (λ e. to_of way e < COMPONENTS) es
+tos lib h es is Down = subst (All (λ e. e.head.0 < COMPONENTS)) (sym is) (λ k d short. omega (arith, edge_heads lib h k d short, h.few_components))
+tos lib h es is Up = subst (All (λ e. e.tail.0 < COMPONENTS)) (sym is) (λ k d short. omega (arith, edge_tails lib h k d short, h.few_components))
+
+module _ (lib : LibraryParts) (arch : ArchitectureParts) (failed : Set) where
+  -- rows are of the library's and the architecture's edges
+  pub rows_are : (way : Way) (rows : List Set) (chosen : Set) (n : ℕ) (es : List Edge) → chosen ≡ arch.edges → n ≡ length lib.components → es ≡ lib.edges
+      → ((a c : ℕ) → is_next rows a c ≡ leads way (live chosen failed n es) a c) → (a c : ℕ) → is_next rows a c ≡ leads way (live_edges lib arch (has failed)) a c
+  rows_are way rows chosen n es e k f nexts a c =
+      nexts a c ∙ ap (λ s. leads way (live s failed n es) a c) e ∙ ap (λ m. leads way (live arch.edges failed m es) a c) k ∙ ap (λ l. leads way (live arch.edges failed (length lib.components) l) a c) f
+
+  -- down from the sources
+  pub reach_exact : (up first : Set) (rows : List Set) → ((c : ℕ) → has up c ≡ is_up arch (has failed) c) → ((c : ℕ) → has first c ≡ (has up c && is_source lib c))
+      → ((a c : ℕ) → is_next rows a c ≡ leads Down (live_edges lib arch (has failed)) a c)
+      → (c : ℕ) → ((rest : List ℕ) × IsWalk (has first) (has up) (is_next rows) c rest) ↔ ((path : List ℕ) × IsPath lib arch c (has failed) path)
+  reach_exact up first rows ups firsts nexts c =
+      let exact = walk_or_path lib arch (has failed) c in (
+        (λ w. exact.0 (
+          w.0,
+          walk_map (has first) (has up) (is_next rows) (is_source lib) (is_up arch (has failed)) (joins (live_edges lib arch (has failed)))
+              (λ d u. sym (ups d) ∙ u) (λ d u s. and_right (has up d) (is_source lib d) (sym (firsts d) ∙ s)) (λ b d u j. sym (nexts b d) ∙ j) c w.0 w.1,
+        )),
+        (λ p. let w = exact.1 p in (
+          w.0,
+          walk_map (is_source lib) (is_up arch (has failed)) (joins (live_edges lib arch (has failed))) (has first) (has up) (is_next rows)
+              (λ d u. ups d ∙ u) (λ d u s. firsts d ∙ and_both (has up d) (is_source lib d) (ups d ∙ u) s) (λ b d u j. nexts b d ∙ j) c w.0 w.1,
+        )),
+      )
+
+  -- up from a sink
+  swap : (a b : Bool) → (a && b) ≡ true → (b && a) ≡ true
+  swap true b h = ap (λ x. x && true) h
+  swap false b h = let e : false ≡ true = h in absurd cc
+
+  any_wider : (p q : Edge → Bool) (es : List Edge) → ((e : Edge) → p e ≡ true → q e ≡ true) → list_any p es ≡ true → list_any q es ≡ true
+  any_wider p q [] wider h = h
+  any_wider p q (e ∷ es) wider h = elim (or_cases (p e) (list_any p es) h) [ inl here ↦ or_left (q e) (list_any q es) (wider e here) | inr later ↦ or_right (q e) (list_any q es) (any_wider p q es wider later) ]
+
+  turn : (a c : ℕ) → leads Up (live_edges lib arch (has failed)) a c ≡ true → joins (live_edges lib arch (has failed)) c a ≡ true
+  turn a c h = any_wider (λ (e : Edge). nat_eq e.head.0 a && nat_eq e.tail.0 c) (λ (e : Edge). nat_eq e.tail.0 c && nat_eq e.head.0 a) (live_edges lib arch (has failed)) (λ e. swap (nat_eq e.head.0 a) (nat_eq e.tail.0 c)) h
+
+  turn_back : (a c : ℕ) → joins (live_edges lib arch (has failed)) c a ≡ true → leads Up (live_edges lib arch (has failed)) a c ≡ true
+  turn_back a c h = any_wider (λ (e : Edge). nat_eq e.tail.0 c && nat_eq e.head.0 a) (λ (e : Edge). nat_eq e.head.0 a && nat_eq e.tail.0 c) (live_edges lib arch (has failed)) (λ e. swap (nat_eq e.tail.0 c) (nat_eq e.head.0 a)) h
+
+  module _ (fits : IsArchitecture lib arch) (sink : ℕ) (up first : Set) (rows : List Set) (one : first ≡ put empty sink)
+      (ups : (c : ℕ) → has up c ≡ (has (union arch.comps first) c && not (has failed c)))
+      (nexts : (a c : ℕ) → is_next rows a c ≡ leads Up (live_edges lib arch (has failed)) a c) where
+    only_sink : (c : ℕ) → has first c ≡ nat_eq sink c
+    only_sink c = ap (λ s. has s c) one ∙ has-put empty sink c ∙ ap (λ b. b || nat_eq sink c) (has-empty c)
+
+    up_live : (c : ℕ) → has up c ≡ true → not (has failed c) ≡ true
+    up_live c u = and_right (has (union arch.comps first) c) (not (has failed c)) (sym (ups c) ∙ u)
+
+    is_up_here : (c : ℕ) → (has arch.comps c || has first c) ≡ true → not (has failed c) ≡ true → has up c ≡ true
+    is_up_here c h live = ups c ∙ and_both (has (union arch.comps first) c) (not (has failed c)) (has-union arch.comps first c ∙ h) live
+
+    leads_of : (c : ℕ) (rest : List ℕ) → IsWalk (has first) (has up) (is_next rows) c rest → LeadsTo lib arch sink (has failed) (c ∷ rest)
+    leads_of c [] w = (up_live c w.0, sym (eqb-true sink c (sym (only_sink c) ∙ w.1)))
+    leads_of c (b ∷ rest) w = (up_live c w.0, turn b c (sym (nexts b c) ∙ w.1), leads_of b rest w.2)
+
+    walk_back : (c : ℕ) (rest : List ℕ) → LeadsTo lib arch sink (has failed) (c ∷ rest) → IsWalk (has first) (has up) (is_next rows) c rest
+    walk_back c [] h = let begin = only_sink c ∙ eq-eqb sink c (sym h.1) in (is_up_here c (or_right (has arch.comps c) (has first c) begin) h.0, begin)
+    walk_back c (b ∷ rest) h =
+        (is_up_here c (or_left (has arch.comps c) (has first c) (joins_tail lib arch (has failed) fits c b h.1)) h.0, nexts b c ∙ turn_back b c h.1, walk_back b rest h.2)
+
+    pub ancestors_exact : (c : ℕ) → ((rest : List ℕ) × IsWalk (has first) (has up) (is_next rows) c rest) ↔ ((rest : List ℕ) × LeadsTo lib arch sink (has failed) (c ∷ rest))
+    ancestors_exact c = ((λ w. (w.0, leads_of c w.0 w.1)), (λ l. (l.0, walk_back c l.0 l.1)))
+
+  -- the sink and the present components are in range
+  pub with_sink : IsArchitecture lib arch → (sink : ℕ) (first both : Set) → sink < length lib.components → first ≡ put empty sink → both ≡ union arch.comps first → (c : ℕ) → IsTrue (has both c) → c < length lib.components
+  with_sink fits sink first both low one is c h =
+      elim (or_cases (has arch.comps c) (has first c) (sym (has-union arch.comps first c) ∙ sym (ap (λ s. has s c) is) ∙ h)) [
+        | inl here ↦ fits.comps c here
+        | inr at ↦ let e : sink ≡ c = eqb-true sink c (sym (ap (λ s. has s c) one ∙ has-put empty sink c ∙ ap (λ b. b || nat_eq sink c) (has-empty c)) ∙ at) in omega arith
+      ]
+
+-- `↔` in a row
+pub through : {A B C : Type 0} → (A ↔ B) → (B ↔ C) → (A ↔ C)
+through f g = ((λ a. g.0 (f.0 a)), (λ d. f.1 (g.1 d)))

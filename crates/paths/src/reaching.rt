@@ -1,0 +1,45 @@
+// The searches: down from the sources, and up from a sink.
+ghost use Rattle.std.specs.Prelude.{◌≡◌, ℕ, ◌<◌, ◌↔◌, ◌∷◌, IsTrue, List, length};
+ghost use Rattle.arch_model.specs.Set as set;
+ghost use Rattle.arch_model.specs.Architecture.{IsArchitecture};
+ghost use Rattle.arch_model.specs.Path.{IsPath, LeadsTo, Parts};
+
+use crate::adjacency::{Way, rows_of};
+use crate::spreading::closure;
+use crate::standing::{outside, sources};
+use arch_model::{Architecture, CompId, CompSet, Library, MemberSet};
+
+/// What present, unfailed sources reach over present, unfailed edges, themselves included.
+pub fn reach(lib: &Library, arch: &Architecture, failed: MemberSet) -> CompSet
+    requires { IsArchitecture lib.now arch.now }
+    ensures { (c : ℕ) → IsTrue (set.has result c) ↔ ((path : List ℕ) × IsPath lib.now arch.now c (set.has failed) path) }
+{
+    let components = lib.components();
+    let n = components.len() as u32;
+    let up = outside(&arch.comps(), n, &failed);
+    let rows = rows_of(lib.edges(), Way::Down, &arch.edges(), &failed, n);
+    closure(&rows, &up, &sources(components, &up))
+}
+
+/// Whether no path to the sink avoids the failed members.
+pub fn parted(lib: &Library, arch: &Architecture, sink: CompId, failed: MemberSet) -> bool
+    requires { IsArchitecture lib.now arch.now }
+    ensures { IsTrue result ↔ Parts lib.now arch.now sink.0 (set.has failed) }
+{
+    !reach(lib, arch, failed).has(sink)
+}
+
+/// The components outside `failed` from which the sink is reached over present edges outside
+/// `failed` and components outside `failed`; the sink itself where it is outside.
+pub fn ancestors(lib: &Library, arch: &Architecture, sink: CompId, failed: MemberSet) -> CompSet
+    requires architecture { IsArchitecture lib.now arch.now }
+    requires in_range { sink.0 < length lib.now.components }
+    ensures { (c : ℕ) → IsTrue (set.has result c) ↔ ((rest : List ℕ) × LeadsTo lib.now arch.now sink.0 (set.has failed) (c ∷ rest)) }
+{
+    let n = lib.components().len() as u32;
+    let mut first = CompSet::new();
+    first.put(sink);
+    let up = outside(&arch.comps().union(&first), n, &failed);
+    let rows = rows_of(lib.edges(), Way::Up, &arch.edges(), &failed, n);
+    closure(&rows, &up, &first)
+}
