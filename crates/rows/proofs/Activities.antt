@@ -1,5 +1,5 @@
 -- Greatest activities: what a term adds, and how large that is.
-use Rattle.std.proofs.Common.{◌≡◌, ℕ, zero, suc, neg_ℤ, ◌+◌, ◌*◌, ◌^◌, ◌≤◌, ◌<◌, ℤ, pos, negsuc, ◌+ℤ◌, ◌-ℤ◌, unsigned_abs, Bool, true, false, List, length, get_or, Option, Some, None, arith, ap, ◌∙◌, FitsSigned, to_z, of_z}
+use Rattle.std.proofs.Common.{◌≡◌, ℕ, zero, suc, neg_ℤ, int_lt, ◌+◌, ◌*◌, ◌^◌, ◌≤◌, ◌<◌, ℤ, pos, negsuc, ◌+ℤ◌, ◌-ℤ◌, unsigned_abs, Bool, true, false, List, length, get_or, Option, Some, None, arith, ap, ◌∙◌, FitsSigned, to_z, of_z}
 use Rattle.std.specs.Int.{w128}
 use Rattle.std.specs.List.{All}
 use Rattle.std.proofs.lemmas.Int.{ints, to_z-of_z, fits_signed_from_abs}
@@ -65,7 +65,7 @@ minus_sized zero h = omega arith
 minus_sized (suc n) h = omega arith
 
 -- how far one number is above another, as the code has it
-plain_to : (a : ℤ) → unsigned_abs a ≤ 2 ^ 118 → to_z w128 (of_z w128 a) ≡ a
+pub plain_to : (a : ℤ) → unsigned_abs a ≤ 2 ^ 118 → to_z w128 (of_z w128 a) ≡ a
 plain_to a h = to_z-of_z w128 a (fits_signed_from_abs w128 a (omega (arith, h)))
 
 difference_fits : (a b : ℤ) → unsigned_abs a ≤ 2 ^ 118 → unsigned_abs b ≤ 2 ^ 118 → FitsSigned w128 (a -ℤ b)
@@ -94,3 +94,7 @@ bound_small u h =
 
 pub bound_is : (u : ℕ) → u < 2 ^ 64 → (pos 1 -ℤ to_z w128 u) ≡ pos 1 -ℤ pos u
 bound_is u h = omega (arith, ints)
+
+-- a test of two numbers is that of what they are
+pub test_is : (a b x y : ℤ) → a ≡ x → b ≡ y → int_lt a b ≡ int_lt x y
+test_is a b x y e f = ap (λ z. int_lt z b) e ∙ ap (int_lt x) f

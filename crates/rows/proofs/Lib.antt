@@ -7,3 +7,4 @@ pub mod Costs
 pub mod KnownRows
 pub mod WhatIsForced
 pub mod ForcedTurns
+pub mod QuietRows

@@ -1,5 +1,5 @@
 -- Greatest activities, and what a row refutes and forces in a cube (textbook propagation).
-use Rattle.std.specs.Prelude.{◌≡◌, ℕ, ◌≤◌, ℤ, pos, neg_ℤ, ◌-ℤ◌, ◌<ℤ◌, int_lt, Bool, true, false, not, ◌&&◌, map, Option, Some, None, if◌then◌else◌}
+use Rattle.std.specs.Prelude.{is_none, ◌≡◌, ℕ, ◌≤◌, ℤ, pos, neg_ℤ, ◌-ℤ◌, ◌<ℤ◌, int_lt, Bool, true, false, not, ◌&&◌, map, Option, Some, None, if◌then◌else◌}
 use Rattle.std.specs.Int.{int_max}
 use Rattle.std.specs.Option.{option_map}
 use Rattle.std.specs.List.{find}
@@ -57,6 +57,10 @@ room_of row cube = greatest_activity row cube -ℤ row.least
 pub record IsQuietAt (cube : CubeParts) (row : RowParts) : Type 0 where
   pub open_yet : is_refuted row cube ≡ false
   pub still : least_forced row cube ≡ None
+
+-- its test
+abbrev pub is_quiet_at : CubeParts → RowParts → Bool
+is_quiet_at cube row = not (is_refuted row cube) && is_none (least_forced row cube)
 
 -- a forced variable by its number
 abbrev pub number_of : VarId × Bool → ℕ × Bool

@@ -81,7 +81,7 @@ fn forced_by_cost(lib: &Library, cube: &Cube, room: i128) -> Option<(VarId, bool
 }
 
 // The least variable that a row forces, whether it is refuted or not.
-fn forces_of_row(row: &Row, cube: &Cube) -> Option<(VarId, bool)>
+pub fn forces_of_row(row: &Row, cube: &Cube) -> Option<(VarId, bool)>
     ensures { option_map number_of result ≡ least_forced row.now cube.now }
 {
     let room = greatest_of_row(row, cube) - row.least();
@@ -92,7 +92,7 @@ fn forces_of_row(row: &Row, cube: &Cube) -> Option<(VarId, bool)>
 }
 
 // The same for a cut.
-fn forces_of_cut(cut: &CutRow, cube: &Cube) -> Option<(VarId, bool)>
+pub fn forces_of_cut(cut: &CutRow, cube: &Cube) -> Option<(VarId, bool)>
     ensures { option_map number_of result ≡ least_forced (row_of_cut cut.now) cube.now }
 {
     let room = greatest_of_cut(cut, cube) - cut.least();
@@ -103,7 +103,7 @@ fn forces_of_cut(cut: &CutRow, cube: &Cube) -> Option<(VarId, bool)>
 }
 
 // The same for the cost row.
-fn forces_of_cost(lib: &Library, bound: u64, cube: &Cube) -> Option<(VarId, bool)>
+pub fn forces_of_cost(lib: &Library, bound: u64, cube: &Cube) -> Option<(VarId, bool)>
     ensures { option_map number_of result ≡ least_forced (cost_row_of lib.now bound) cube.now }
 {
     let room = greatest_of_cost(lib, cube) - (1 - bound as i128);

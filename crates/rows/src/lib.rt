@@ -8,6 +8,7 @@ mod forcing;
 mod judge;
 mod known;
 mod problem;
+mod quiet_cubes;
 mod row;
 
 pub use cost::{member_cost, variable_count};
@@ -17,4 +18,5 @@ pub use forcing::forces;
 pub use judge::{greatest, has, refuted};
 pub use known::{Known, Pair, Reason, RowRef, Trace};
 pub use problem::Problem;
+pub use quiet_cubes::quiet;
 pub use row::{Row, Term};
