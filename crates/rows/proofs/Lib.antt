@@ -8,3 +8,4 @@ pub mod KnownRows
 pub mod WhatIsForced
 pub mod ForcedTurns
 pub mod QuietRows
+pub mod EmptyProblem

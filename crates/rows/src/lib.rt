@@ -20,3 +20,6 @@ pub use known::{Known, Pair, Reason, RowRef, Trace};
 pub use problem::Problem;
 pub use quiet_cubes::quiet;
 pub use row::{Row, Term};
+
+#[cfg(test)]
+mod tests;
