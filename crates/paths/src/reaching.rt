@@ -9,10 +9,13 @@ use crate::spreading::closure;
 use crate::standing::{outside, sources};
 use arch_model::{Architecture, CompId, CompSet, Library, MemberSet};
 
-/// What present, unfailed sources reach over present, unfailed edges, themselves included.
+/// The components to which a path leads: a list of present components from a source on, each joined
+/// to the next by a present edge, with no component or joining edge of it in `failed`. A source that
+/// is present and outside `failed` is reached.
 pub fn reach(lib: &Library, arch: &Architecture, failed: MemberSet) -> CompSet
     requires { IsArchitecture lib.now arch.now }
-    ensures { (c : ℕ) → IsTrue (set.has result c) ↔ ((path : List ℕ) × IsPath lib.now arch.now c (set.has failed) path) }
+    ensures { (c : ℕ) → IsTrue (set.has result c)
+        ↔ ((path : List ℕ) × IsPath lib.now arch.now c (set.has failed) path) }
 {
     let components = lib.components();
     let n = components.len() as u32;
@@ -21,7 +24,8 @@ pub fn reach(lib: &Library, arch: &Architecture, failed: MemberSet) -> CompSet
     closure(&rows, &up, &sources(components, &up))
 }
 
-/// Whether no path to the sink avoids the failed members.
+/// Whether no path to the sink avoids the failed members. No path leads to a sink that is absent or
+/// failed, so it is parted.
 pub fn parted(lib: &Library, arch: &Architecture, sink: CompId, failed: MemberSet) -> bool
     requires { IsArchitecture lib.now arch.now }
     ensures { IsTrue result ↔ Parts lib.now arch.now sink.0 (set.has failed) }
@@ -30,11 +34,13 @@ pub fn parted(lib: &Library, arch: &Architecture, sink: CompId, failed: MemberSe
 }
 
 /// The components outside `failed` from which the sink is reached over present edges outside
-/// `failed` and components outside `failed`; the sink itself where it is outside.
+/// `failed` and components outside `failed`; the sink itself, also an absent one, where it is
+/// outside. A sink in `failed` has none. The sink's number must be in range.
 pub fn ancestors(lib: &Library, arch: &Architecture, sink: CompId, failed: MemberSet) -> CompSet
     requires architecture { IsArchitecture lib.now arch.now }
     requires in_range { sink.0 < length lib.now.components }
-    ensures { (c : ℕ) → IsTrue (set.has result c) ↔ ((rest : List ℕ) × LeadsTo lib.now arch.now sink.0 (set.has failed) (c ∷ rest)) }
+    ensures { (c : ℕ) → IsTrue (set.has result c)
+        ↔ ((rest : List ℕ) × LeadsTo lib.now arch.now sink.0 (set.has failed) (c ∷ rest)) }
 {
     let n = lib.components().len() as u32;
     let mut first = CompSet::new();
