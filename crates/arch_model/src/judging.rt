@@ -1,7 +1,6 @@
 // Whether rows make a library.
-ghost use Rattle.std.specs.Prelude.{◌≡◌, ◌≢◌, ◌≤◌, ◌↔◌, IsTrue, length};
-ghost use Rattle.std.specs.List.{All, AllPairs};
-ghost use Rattle.arch_model.specs.Library.{IsLibrary, IsTypeRow, IsLinkRow, library_parts};
+ghost use Rattle.std.specs.Prelude.{◌↔◌, IsTrue};
+ghost use Rattle.arch_model.specs.Library.{IsLibrary, library_parts};
 
 mod expected;
 mod rows;

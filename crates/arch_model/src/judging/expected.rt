@@ -1,5 +1,5 @@
 // Whether components and edges are those of types and links: each walk takes from a list what it must begin with.
-ghost use Rattle.std.specs.Prelude.{◌≡◌, ◌≢◌, ◌≤◌, ◌<◌, ◌↔◌, ◌++◌, List, ◌∷◌, IsTrue, IsSome, IfSome, length, map, filter, nat_eq, not};
+ghost use Rattle.std.specs.Prelude.{◌≡◌, ◌↔◌, ◌++◌, List, ◌∷◌, IsTrue, IsSome, IfSome};
 ghost use Rattle.arch_model.specs.Template.{components_of, instances_of_type, instances_of, edges_of, edges_of_link};
 ghost use Rattle.arch_model.specs.Expected.{instance_of_type, edge_of, edges_to};
 
@@ -109,9 +109,10 @@ fn after_heads<'a>(
     link: &LinkRow,
     tail: usize,
 ) -> Option<&'a [Edge]>
-    ensures some { IfSome result (λ rest. list.now ≡ edges_to link.now tail (instances_of components.now link.now.to) ++ rest.now) }
-    ensures none { (rest : List Edge) → list.now ≡ edges_to link.now tail (instances_of components.now link.now.to) ++ rest
-        → IsSome result }
+    ensures some { IfSome result (λ rest.
+        list.now ≡ edges_to link.now tail (instances_of components.now link.now.to) ++ rest.now) }
+    ensures none { (rest : List Edge)
+        → list.now ≡ edges_to link.now tail (instances_of components.now link.now.to) ++ rest → IsSome result }
 {
     let mut rest = list;
     for (head, component) in components.iter().enumerate() {

@@ -1,5 +1,6 @@
 // Rows in their ranges.
-ghost use Rattle.std.specs.Prelude.{◌≡◌, ◌≢◌, ◌≤◌, ◌<◌, ◌^◌, ◌↔◌, ◌++◌, IsTrue, length, map, slice_get, count_by, nat_lt, Option};
+ghost use Rattle.std.specs.Prelude.{◌≡◌, ◌≢◌, ◌≤◌, ◌<◌, ◌^◌, ◌↔◌, ◌++◌, IsTrue, length, map, slice_get};
+ghost use Rattle.std.specs.Prelude.{count_by, nat_lt};
 ghost use Rattle.std.specs.List.{All, AllPairs};
 ghost use Rattle.std.specs.Option.{IsSomeAnd};
 ghost use Rattle.arch_model.specs.Library.{IsTypeRow, IsLinkRow, IsPatternRow, AreBounds};
@@ -157,7 +158,8 @@ fn is_sink(components: &[Component], c: CompId) -> bool
 
 // Whether each requirement is of a sink.
 pub(super) fn are_sinks(requirements: &[Requirement], components: &[Component]) -> bool
-    ensures { IsTrue result ↔ All (λ r. IsSomeAnd (slice_get components.now r.sink.0) (λ row. row.role ≡ Role.Sink)) requirements.now }
+    ensures { IsTrue result
+        ↔ All (λ r. IsSomeAnd (slice_get components.now r.sink.0) (λ row. row.role ≡ Role.Sink)) requirements.now }
 {
     requirements.iter().all(|r| is_sink(components, r.sink))
 }
