@@ -64,7 +64,7 @@ nonzero_or (pos zero) = refl
 nonzero_or (pos (suc n)) = refl
 nonzero_or (negsuc n) = refl
 
-cost_coef_at : (lib : LibraryParts) (u v : ℕ) → v < member_count lib → coef_at (cost_row_of lib u).terms v ≡ neg_ℤ (pos (member_cost_of lib v))
+pub cost_coef_at : (lib : LibraryParts) (u v : ℕ) → v < member_count lib → coef_at (cost_row_of lib u).terms v ≡ neg_ℤ (pos (member_cost_of lib v))
 cost_coef_at lib u v short =
     ap (λ l. coef_at l v) (collected_is (member_count lib) (cost_terms lib))
     ∙ coef_chosen (λ w. is_nonzero (coef_at (cost_terms lib) w)) (coef_at (cost_terms lib)) v 0 (member_count lib) (omega arith) (omega arith)
@@ -120,7 +120,7 @@ cut_coef_by : (b : Bool) (a : ℤ) → (b ≡ false → a ≡ pos 0) → (if b t
 cut_coef_by true a h = refl
 cut_coef_by false a h = sym (h refl)
 
-cut_coef_at : (cut : CutParts) (v : ℕ) → v < MEMBERS → coef_at (row_of_cut cut).terms v ≡ cut_coef cut v
+pub cut_coef_at : (cut : CutParts) (v : ℕ) → v < MEMBERS → coef_at (row_of_cut cut).terms v ≡ cut_coef cut v
 unfolding members_below
 cut_coef_at cut v short =
     coef_chosen (has (union cut.plus cut.minus)) (cut_coef cut) v 0 MEMBERS (omega arith) (omega arith)

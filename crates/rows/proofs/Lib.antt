@@ -9,3 +9,4 @@ pub mod WhatIsForced
 pub mod ForcedTurns
 pub mod QuietRows
 pub mod EmptyProblem
+pub mod Combinations

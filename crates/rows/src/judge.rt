@@ -76,10 +76,10 @@ pub fn greatest(known: &Known, r: RowRef, cube: &Cube) -> i128
 }
 
 // What a row's sum must come to at least.
-fn least_of(known: &Known, r: RowRef) -> i128
+pub fn least_of(known: &Known, r: RowRef) -> i128
     requires { IsTrue (has_row (parts_of known.now) r) }
     ensures value { IfSome (row_at (parts_of known.now) r) (λ row. result ≡ row.least) }
-    ensures small { unsigned_abs result ≤ 2 ^ 118 }
+    ensures small { unsigned_abs result ≤ 2 ^ 65 }
 {
     match r {
         RowRef::Base(i) => known.problem.base()[i as usize].least(),

@@ -10,6 +10,7 @@ mod known;
 mod problem;
 mod quiet_cubes;
 mod row;
+mod together_of;
 
 pub use cost::{member_cost, variable_count};
 pub use cube::Cube;
@@ -20,6 +21,7 @@ pub use known::{Known, Pair, Reason, RowRef, Trace};
 pub use problem::Problem;
 pub use quiet_cubes::quiet;
 pub use row::{Row, Term};
+pub use together_of::together;
 
 #[cfg(test)]
 mod tests;
