@@ -8,7 +8,7 @@ use crate::judge::greatest_of_row;
 use crate::known::{Known, Pair, Reason, RowRef, Trace};
 use crate::problem::Problem;
 use crate::row::{Row, Term};
-use crate::{forces, greatest, has, quiet, refuted};
+use crate::{forces, greatest, has, quiet, refuted, together};
 use arch_model::limits::MEMBERS;
 use arch_model::{Library, Memory, Template, VarId};
 use std::alloc::Global;
@@ -186,5 +186,26 @@ fn traces_and_reasons_lend_what_they_hold(rt: HostRuntime) -> Result<(), Fail> {
     };
     let reason = Reason::new([pair].to_vec(rt.alloc())?);
     assert_eq!(rt; reason.pairs(), [pair].as_slice());
+    Ok(())
+}
+
+#[test]
+fn a_reason_is_refuted_where_its_combination_is(rt: HostRuntime) -> Result<(), Fail> {
+    let problem = empty_problem(rt.alloc());
+    let mut cuts = CutList::new(rt.alloc());
+    cuts.push(CutRow::new(1))?;
+    let known = Known {
+        problem: &problem,
+        cuts: &cuts,
+        upto: 1,
+        bound: None,
+    };
+    let pair = Pair {
+        row: RowRef::Cut(0),
+        times: 3,
+    };
+    assert!(rt; has(&known, pair.row));
+    let reason = Reason::new([pair].to_vec(rt.alloc())?);
+    assert!(rt; together(&known, &reason, &Cube::whole()));
     Ok(())
 }
