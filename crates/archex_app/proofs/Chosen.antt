@@ -1,11 +1,11 @@
 -- The chosen items of a list, where more are chosen.
-use Rattle.std.proofs.Common.{◌≡◌, ◌≢◌, ℕ, zero, suc, ◌+◌, ◌-◌, ◌*◌, ◌<◌, ◌≤◌, Bool, true, false, cond, ◌||◌, nat_eq, List, [], ◌∷◌, map, filter, length, get_or, refl, sym, ap, subst, ◌∙◌, arith, inl, inr, add_assoc, zero-add, add-zero}
+use Rattle.std.proofs.Common.{◌≡◌, ◌≢◌, ℕ, zero, suc, ◌+◌, ◌*◌, ◌<◌, ◌≤◌, Bool, true, false, cond, ◌||◌, nat_eq, List, [], ◌∷◌, map, filter, length, get_or, refl, sym, ap, subst, ◌∙◌, arith, inl, inr, add_assoc, zero-add, add-zero}
 use Rattle.std.specs.List.{enumerate_from, sum_by, All, AllByRecursion}
 use Rattle.std.proofs.lemmas.List.Sums.{sum_by-cons}
 use Rattle.std.proofs.lemmas.List.Elements.{All-from_recursion, recursion_from_All}
 use Rattle.std.proofs.lemmas.Bool.Decides.{eqb_tells}
 use Rattle.arch_model.specs.Architecture.{present}
-use Rattle.arch_model.proofs.Members.{or_left, bool_cases}
+use Rattle.arch_model.proofs.Members.{bool_cases}
 
 abbrev pub chosen_from : {X : Type 0} → (ℕ → Bool) → ℕ → List X → List X
 chosen_from p n xs = map (λ e. e.1) (filter (λ e. p e.0) (enumerate_from n xs))

@@ -4,4 +4,5 @@ pub mod Chosen
 pub mod SearchLaws
 pub mod RunLaws
 pub mod MeetsLaws
+pub mod KeyLaws
 pub mod ReportLaws

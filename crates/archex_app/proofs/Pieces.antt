@@ -1,5 +1,5 @@
 -- A file read, and a text printed, piece by piece.
-use Rattle.std.proofs.Common.{◌≡◌, ℕ, ◌+◌, ◌-◌, ◌≤◌, ◌<◌, Option, Some, None, List, [], ◌++◌, take, drop, length, refl, sym, ap, subst, ◌∙◌, arith, append_assoc, IfSome, OnErr, Result, Ok, Err, append-nil, length-drop, length-append}
+use Rattle.std.proofs.Common.{◌≡◌, ℕ, ◌+◌, ◌-◌, ◌≤◌, Option, Some, None, List, [], ◌++◌, take, drop, length, sym, ap, subst, ◌∙◌, arith, append_assoc, IfSome, OnErr, Result, Ok, Err, append-nil, length-drop, length-append}
 use Rattle.std.proofs.Math.Seq.{take-add}
 use Rattle.std.proofs.lemmas.List.{take_all, length-take-le}
 use Rattle.outside.specs.Told.{Finds, Appends}

@@ -1,6 +1,6 @@
 -- Texts, line by line.
-use Rattle.std.proofs.Common.{◌≡◌, ℕ, zero, suc, ◌+◌, ◌<◌, Bool, true, false, cond, List, [], ◌∷◌, ◌++◌, filter, length, get_or, codes, refl, sym, ap, ◌∙◌, arith, append_assoc, inl, inr, Some}
-use Rattle.std.specs.Prelude.{slice_get, IsTrue}
+use Rattle.std.proofs.Common.{◌≡◌, ℕ, ◌<◌, Bool, true, false, cond, List, [], ◌∷◌, ◌++◌, filter, length, get_or, codes, refl, sym, ap, ◌∙◌, append_assoc}
+use Rattle.std.specs.Prelude.{IsTrue}
 use Rattle.std.specs.List.{AllByRecursion, flat_map, range_with_len}
 use Rattle.std.specs.Option.{option_map_or}
 use Rattle.std.proofs.lemmas.Option.{slice_get-get_or}
@@ -10,7 +10,6 @@ use Rattle.arch_model.specs.Parts.{LibraryParts, ArchitectureParts}
 use Rattle.arch_model.specs.Architecture.{cost_of}
 use Rattle.arch_model.specs.declared.limits.TheConstants.{COMPONENTS, EDGES}
 use Rattle.std.specs.Fmt.{decimal}
-use Rattle.arch_model.proofs.Members.{bool_cases}
 use Rattle.arch_model.proofs.Ranges.{blank_edge}
 use Rattle.template.specs.Names.{component_name}
 use Rattle.archex_app.specs.Report.{component_line, edge_line, optimal_text}

@@ -1,7 +1,7 @@
 -- From what was read and printed to what a run may say.
-use Rattle.std.proofs.Common.{◌≡◌, ℕ, ◌+◌, ◌<◌, ◌≤◌, true, false, nat_lt, Option, Some, None, List, [], ◌∷◌, ◌++◌, take, length, Ok, Err, IsErr, refl, sym, ap, subst, ◌∙◌, arith, inl, inr, ◌⊎◌, IfSome, string_bytes, Result}
+use Rattle.std.proofs.Common.{◌≡◌, ℕ, ◌<◌, ◌≤◌, true, false, nat_lt, Option, Some, None, List, ◌++◌, take, length, Ok, Err, IsErr, refl, sym, ap, subst, ◌∙◌, arith, inl, inr, ◌⊎◌, IfSome, Result}
 use Rattle.std.proofs.lemmas.List.{take_all, length-take-le}
-use Rattle.std.proofs.lemmas.Bool.{ltb-true, ltb-false}
+use Rattle.std.proofs.lemmas.Bool.{ltb-true, ltb-false, lt-ltb}
 use Rattle.arch_model.specs.Parts.{LibraryParts}
 use Rattle.arch_model.proofs.Members.{bool_cases}
 use Rattle.outside.specs.Told.{Appends}
@@ -13,21 +13,25 @@ use Rattle.archex_app.specs.declared.status.Status.{Status}
 use Rattle.archex_app.specs.Words.{AskToSolve}
 use Rattle.archex_app.specs.Status.{IsStatus}
 use Rattle.archex_app.specs.Complete.{Solves, Completes}
-use Rattle.outside.specs.Faults.{Rose}
 use Rattle.std.specs.Prelude.{MatchResult}
 use Rattle.std.proofs.Common.{◌≢◌}
 use Rattle.archex_app.specs.Outcome.{IsOutcome, text_of, status_of}
-use Rattle.archex_app.specs.Answer.{ShowsAnswer, ShowsCheapest, ShowsInfeasible, ShowsRefusal, IsDue, PrintsFront}
+use Rattle.archex_app.specs.Answer.{ShowsAnswer, PrintsFront}
 
 not_both : {A E : Type 0} (r : Result A E) (x : A) → r ≡ Ok x → IsErr r → ⊥
 not_both (Ok y) x e h = let t : false ≡ true = h in cc
 not_both (Err y) x e h = cc
 
+-- two texts that are both too long have one fault
+same_refusal : (read all : List ℕ) → 1048576 < length read → 1048576 < length all → library_of all ≡ library_of read
+unfolding library_of
+same_refusal read all long longer = rw (lt-ltb 1048576 (length read) long, lt-ltb 1048576 (length all) longer) refl
+
 -- where more bytes were told than a library may have, only a refusal is right, of the front that was read as of all
 refused_anyway : (read all : List ℕ) (outcome : Outcome) → 1048576 < length read → 1048576 < length all → IsOutcome read outcome → IsOutcome all outcome
 refused_anyway read all (Optimal report) long longer is = absurd (not_both (library_of read) is.lib is.read (too_large read long))
 refused_anyway read all Infeasible long longer is = absurd (not_both (library_of read) is.lib is.read (too_large read long))
-refused_anyway read all Refused long longer is = record { refused = too_large all longer; report = is.report }
+refused_anyway read all (Refused line) long longer is = record { fault = is.fault; refused = same_refusal read all long longer ∙ is.refused; report = is.report }
 
 pub whole_outcome : (told : Option (List ℕ)) (read : List ℕ) (outcome : Outcome) → IfSome told (λ all. read ≡ take READ_LIMIT all) → IsOutcome read outcome
     → (bytes : List ℕ) × IfSome told (λ all. bytes ≡ all) × IsOutcome bytes outcome
@@ -54,17 +58,17 @@ whole_outcome (Some all) read outcome front is = (
 pub is_status : (outcome : Outcome) → IsStatus (record { 0 = status_of outcome })
 is_status (Optimal report) = (0, omega arith, refl)
 is_status Infeasible = (1, omega arith, refl)
-is_status Refused = (2, omega arith, refl)
+is_status (Refused line) = (2, omega arith, refl)
 
 pub never_cut : (outcome : Outcome) → status_of outcome ≡ 6 → ⊥
 never_cut (Optimal report) e = omega arith
 never_cut Infeasible e = omega arith
-never_cut Refused e = omega arith
+never_cut (Refused line) e = omega arith
 
 pub shows_answer : (bytes : List ℕ) (outcome : Outcome) → IsOutcome bytes outcome → ShowsAnswer bytes (text_of outcome)
 shows_answer bytes (Optimal report) is = inl is
 shows_answer bytes Infeasible is = inr (inl is)
-shows_answer bytes Refused is = inr (inr is)
+shows_answer bytes (Refused line) is = inr (inr is)
 
 -- a part of the text of an outcome was printed
 pub front_of_outcome : (words : List (List ℕ)) (told : List ℕ → Option (List ℕ)) (before now : Option (List ℕ)) (name bytes front rest : List ℕ) (outcome : Outcome) → AskToSolve words name → IfSome (told name) (λ all. bytes ≡ all) → IsOutcome bytes outcome
@@ -105,6 +109,9 @@ differ status m n e f ne = ne (ap (λ (s : Status). s.0) (sym e ∙ f))
 one_name : (words : List (List ℕ)) (a b : List ℕ) → AskToSolve words a → AskToSolve words b → a ≡ b
 one_name words a b first second = let e = sym first ∙ second in cc
 
+err_is : {A E : Type 0} {r : Result A E} (e : E) → r ≡ Err e → IsErr r
+err_is {A = A} {E = E} {r = r} e h = let P : Result A E → Type 0 = λ x. IsErr x in subst P (sym h) refl
+
 refused_completes : {E : Type 0} (read : Result LibraryParts E) (status : Status) → IsErr read → (status ≡ record { 0 = 3 }) ⊎ (status ≡ record { 0 = 7 }) → MatchResult read (λ lib. Solves lib status) (λ _. (status ≡ record { 0 = 3 }) ⊎ (status ≡ record { 0 = 7 }))
 refused_completes (Ok lib) status refused ends = absurd (let t : false ≡ true = refused in cc)
 refused_completes (Err fault) status refused ends = ends
@@ -118,7 +125,7 @@ outcome_completes bytes Infeasible status is number =
     let s = is_number status 1 number in
     let P : Result LibraryParts _ → Type 0 = λ r. MatchResult r (λ lib. Solves lib status) (λ _. (status ≡ record { 0 = 3 }) ⊎ (status ≡ record { 0 = 7 })) in
     subst P (sym is.read) (record { ends = inr (inl s); optimal = λ e. absurd (differ status 1 0 s e (λ t. omega arith)); infeasible = λ _. is.none })
-outcome_completes bytes Refused status is number = refused_completes (library_of bytes) status is.refused (inl (is_number status 3 number))
+outcome_completes bytes (Refused line) status is number = refused_completes (library_of bytes) status (err_is is.fault is.refused) (inl (is_number status 3 number))
 
 ends_complete : (told : Option (List ℕ)) (bytes : List ℕ) (outcome : Outcome) (result status : Status) {P R Q : Type 0} → told ≡ Some bytes → (read : List ℕ) × IfSome told (λ all. read ≡ all) × IsOutcome read outcome
     → status.0 ≡ status_of outcome → ((result ≡ status) × P) ⊎ ((result ≡ record { 0 = 6 }) × R × Q) → (R → ⊥) → Completes bytes result

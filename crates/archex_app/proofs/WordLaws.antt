@@ -1,8 +1,7 @@
 -- The place of a word, in one digit.
-use Rattle.std.proofs.Common.{◌≡◌, ℕ, ◌+◌, ◌/◌, ◌%◌, ◌<◌, ◌≤◌, true, nat_lt, List, [], ◌∷◌, ◌++◌, codes, refl, ap, arith, ◌∙◌, sym, subst, inl, inr, ◌⊎◌, Option}
+use Rattle.std.proofs.Common.{◌≡◌, ℕ, ◌+◌, ◌/◌, ◌%◌, ◌<◌, ◌≤◌, [], ◌∷◌, ◌++◌, codes, refl, ap, arith}
 use Rattle.std.specs.Fmt.{decimal, digits}
 use Rattle.std.proofs.lemmas.Bool.{lt-ltb}
-use Rattle.outside.specs.Told.{Appends}
 use Rattle.archex_app.specs.Words.{refused_words_text}
 
 one_digit : (n : ℕ) → n ≤ 9 → decimal n ≡ (48 + n) ∷ []

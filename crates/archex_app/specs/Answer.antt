@@ -1,12 +1,14 @@
 -- What a run answers: which bytes it read, which text it printed, and what that says.
-use Rattle.std.specs.Prelude.{◌≡◌, ℕ, Option, List, ◌++◌, ◌⊎◌, Ok, IsErr, IfSome}
+use Rattle.std.specs.Prelude.{◌≡◌, ℕ, Option, List, ◌++◌, ◌⊎◌, Ok, Err, IfSome}
 use Rattle.arch_model.specs.Parts.{LibraryParts, ArchitectureParts}
 use Rattle.outside.specs.Faults.{Rose}
 use Rattle.outside.specs.Told.{Appends}
 use Rattle.lib_read.specs.LibraryOf.{library_of}
 use Rattle.archex_app.specs.Words.{AskToSolve, RefusesWords}
 use Rattle.archex_app.specs.Cheapest.{MeetsPatterns, IsCheapest}
-use Rattle.archex_app.specs.Report.{optimal_text, infeasible_text, refused_library_text}
+use Rattle.archex_app.specs.Report.{optimal_text, infeasible_text}
+use Rattle.archex_app.specs.Refusal.{refused_library_text}
+use Rattle.lib_read.specs.declared.fault.LibFault.{LibFault}
 
 -- the bytes are a library, and the text is the report of an architecture that meets its patterns at least cost
 pub record ShowsCheapest (bytes text : List ℕ) : Type 0 where
@@ -23,10 +25,11 @@ pub record ShowsInfeasible (bytes text : List ℕ) : Type 0 where
   pub none : (arch : ArchitectureParts) → MeetsPatterns lib arch → ⊥
   pub report : text ≡ infeasible_text
 
--- the bytes are no library
+-- the bytes are no library, and the text names their first fault
 pub record ShowsRefusal (bytes text : List ℕ) : Type 0 where
-  pub refused : IsErr (library_of bytes)
-  pub report : text ≡ refused_library_text
+  pub fault : LibFault
+  pub refused : library_of bytes ≡ Err fault
+  pub report : text ≡ refused_library_text fault
 
 -- a text that shows one of the three
 abbrev pub ShowsAnswer : List ℕ → List ℕ → Type 0

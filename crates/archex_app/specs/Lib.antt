@@ -2,6 +2,7 @@ pub mod Words
 pub mod Commands
 pub mod Cheapest
 pub mod Report
+pub mod Refusal
 pub mod Answer
 pub mod Outcome
 pub mod Status

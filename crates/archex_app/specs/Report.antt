@@ -29,7 +29,3 @@ optimal_text lib arch = codes "status optimal\ncost " ++ decimal (cost_of lib ar
 -- the report that there is none
 abbrev pub infeasible_text : List ℕ
 infeasible_text = codes "status infeasible\n"
-
--- the text that refuses a library
-abbrev pub refused_library_text : List ℕ
-refused_library_text = codes "refused library\n"

@@ -1,5 +1,5 @@
 -- The numbers with which a run ends.
-use Rattle.std.specs.Prelude.{ℕ, List, [], ◌∷◌, Contains}
+use Rattle.std.specs.Prelude.{[], ◌∷◌, Contains}
 use Rattle.archex_app.specs.declared.status.Status.{Status}
 
 -- there is no other

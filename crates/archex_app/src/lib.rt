@@ -15,6 +15,7 @@
 
 mod printing;
 mod reading;
+mod refusal;
 mod report;
 mod run;
 mod search;

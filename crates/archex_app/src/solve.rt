@@ -4,6 +4,7 @@ ghost use Rattle.outside.specs.Faults.{Rose};
 ghost use Rattle.archex_app.specs.Outcome.{IsOutcome, text_of, status_of};
 
 use crate::reading::{ReadError, read_file};
+use crate::refusal::refusal;
 use crate::report::optimal_report;
 use crate::search::cheapest;
 use crate::status::Status;
@@ -19,8 +20,8 @@ pub enum Outcome {
     Optimal(String),
     /// No architecture meets the patterns.
     Infeasible,
-    /// The bytes are no library.
-    Refused,
+    /// The bytes are no library, with the line that says why.
+    Refused(String),
 }
 
 impl Outcome {
@@ -31,7 +32,7 @@ impl Outcome {
         match self {
             Outcome::Optimal(report) => report.as_str(),
             Outcome::Infeasible => "status infeasible\n",
-            Outcome::Refused => "refused library\n",
+            Outcome::Refused(line) => line.as_str(),
         }
     }
 
@@ -42,7 +43,7 @@ impl Outcome {
         match self {
             Outcome::Optimal(_) => Status::OPTIMAL,
             Outcome::Infeasible => Status::INFEASIBLE,
-            Outcome::Refused => Status::REFUSED_LIBRARY,
+            Outcome::Refused(_) => Status::REFUSED_LIBRARY,
         }
     }
 }
@@ -53,7 +54,7 @@ fn decide(alloc: Global, bytes: &[u8]) -> Result<Outcome, Memory>
 {
     let lib = match read_library(alloc, bytes) {
         Ok(lib) => lib,
-        Err(LibError::Refused) => return Ok(Outcome::Refused),
+        Err(LibError::Fault(fault)) => return Ok(Outcome::Refused(refusal(alloc, &fault)?)),
         Err(LibError::Memory) => return Err(AllocError),
     };
     match cheapest(&lib) {

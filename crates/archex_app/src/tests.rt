@@ -35,18 +35,16 @@ fn run_on(
     Ok((status, printed))
 }
 
-// Libraries with the status and the text that are due: no component, one that is required, two of which three are
-// required, and two refusals.
+// Libraries with the status and the text that are due: no component, one that is required, and two of which three are
+// required.
 #[test]
-fn libraries_are_solved_or_refused(rt: HostRuntime) -> Result<(), Fail> {
+fn libraries_are_solved(rt: HostRuntime) -> Result<(), Fail> {
     let too_few = b"type = [{name = \"p\", role = \"source\", max = 2, cost = 3}]
 pattern = [{kind = \"count\", type = \"p\", min = 3}]
 ";
-    let required = b"type = [{name = \"x\", role = \"middle\", cost = 7}]
-pattern = [{kind = \"count\", type = \"x\", min = 1}]
-require = [{sink = \"x.1\", bound = 0}]
-";
-    let rows: [(&[u8], Status, &[u8]); 5] = [
+    let most =
+        b"type = [{name = \"a\", role = \"source\", max = 32}, {name = \"b\", role = \"sink\", max = 32}]";
+    let rows: [(&[u8], Status, &[u8]); 4] = [
         (
             b"",
             Status::OPTIMAL,
@@ -54,8 +52,11 @@ require = [{sink = \"x.1\", bound = 0}]
         ),
         (X, Status::OPTIMAL, X_REPORT),
         (too_few, Status::INFEASIBLE, b"status infeasible\n"),
-        (required, Status::REFUSED_LIBRARY, b"refused library\n"),
-        (b"\xff", Status::REFUSED_LIBRARY, b"refused library\n"),
+        (
+            most,
+            Status::OPTIMAL,
+            b"status optimal\ncost 0\nkind,from,to\n",
+        ),
     ];
     for (library, status, text) in rows {
         let (ended, printed) = run_on(rt.alloc(), &["solve", "x.toml"], library, &[], &[])?;
@@ -123,6 +124,75 @@ pattern = [
     Ok(())
 }
 
+// A library is refused for its first fault, with its class, table, position (0 for the file) and key: one library for
+// each class that a document without requirements can have; a table that isn't known yet; a class that is judged over
+// the whole file before the next one; and a key of 60 characters, of which the first 40 are printed, the line feed and
+// the letter outside ASCII as `?`.
+#[test]
+fn the_first_fault_is_printed(rt: HostRuntime) -> Result<(), Fail> {
+    let alloc = rt.alloc();
+    let rows: [(&[u8], &[u8]); 14] = [
+        (b"\xff", b"L2 NotToml library 0 -"),
+        (b"zz = 1", b"L3 UnknownKey library 0 zz"),
+        (b"type = [{}]", b"L4 MissingKey type 1 name"),
+        (b"type = 1", b"L5 WrongKind library 0 type"),
+        (b"type = [1]", b"L5 WrongKind type 1 -"),
+        (
+            b"type = [{name = \"a\", role = \"sink\", cost = 1.5}]",
+            b"L5 WrongKind type 1 cost",
+        ),
+        (
+            b"type = [{name = \"A\", role = \"sink\"}]",
+            b"L6 BadName type 1 name",
+        ),
+        (
+            b"type = [{name = \"a\", role = \"sink\"}]
+link = [{from = \"a\", to = \"b\"}]",
+            b"L8 UnknownName link 1 to",
+        ),
+        (
+            b"type = [{name = \"a\", role = \"x\"}]",
+            b"L9 Range type 1 role",
+        ),
+        (
+            b"type = [{name = \"a\", role = \"sink\", fail = 1000001}]",
+            b"L9 Range type 1 fail",
+        ),
+        (
+            b"type = [{name = \"a\", role = \"sink\", max = 33}, {name = \"b\", role = \"sink\", max = 32}]",
+            b"L10 TooMany library 0 type",
+        ),
+        (
+            b"require = [{sink = \"x.1\", bound = 0}]",
+            b"L3 UnknownKey library 0 require",
+        ),
+        (
+            b"type = [{name = \"a\", role = \"source\"}, {name = \"b\", role = \"sink\", colour = 1}]
+link = [{from = \"a\", to = \"b\"}, {from = \"a\", to = \"b\"}]",
+            b"L3 UnknownKey type 2 colour",
+        ),
+        (
+            b"type = [{name = \"a\", role = \"source\"}, {name = \"b\", role = \"sink\"}]
+link = [{from = \"a\", to = \"b\"}, {from = \"a\", to = \"b\"}]",
+            b"L7 Duplicate link 2 to",
+        ),
+    ];
+    let refused_as = |library: &[u8], fault: &[u8]| -> Result<bool, AllocError> {
+        let (ended, printed) = run_on(alloc, &["solve", "x.toml"], library, &[], &[])?;
+        let mut line = b"refused library ".to_vec(alloc)?;
+        line.extend_from_slice(fault)?;
+        line.push(b'\n')?;
+        Ok(ended == Status::REFUSED_LIBRARY && printed.as_slice() == line.as_slice())
+    };
+    for (library, fault) in rows {
+        assert!(rt; refused_as(library, fault)?);
+    }
+    let long_key = b"\"key\\n\xc3\xbcxxxxxxxxxxxxxxxxxxxxxxxxxxxxxxxxxxxxxxxxxxxxxxxxxxxxxxx\" = 1";
+    let printed_key = b"L3 UnknownKey library 0 key??xxxxxxxxxxxxxxxxxxxxxxxxxxxxxxxxxxx";
+    assert!(rt; refused_as(long_key, printed_key)?);
+    Ok(())
+}
+
 // A file of one byte more than a library may have is refused, and so is a longer one.
 #[test]
 fn too_large_a_file_is_refused(rt: HostRuntime) -> Result<(), Fail> {
@@ -131,7 +201,10 @@ fn too_large_a_file_is_refused(rt: HostRuntime) -> Result<(), Fail> {
         let words = &["solve", "x.toml"];
         let (ended, printed) = run_on(rt.alloc(), words, library.as_slice(), &[], &[])?;
         assert_eq!(rt; ended, Status::REFUSED_LIBRARY);
-        assert_eq!(rt; printed.as_slice(), b"refused library\n".as_slice());
+        assert_eq!(rt;
+            printed.as_slice(),
+            b"refused library L1 TooLarge library 0 -\n".as_slice()
+        );
     }
     Ok(())
 }

@@ -1,10 +1,10 @@
 -- The rows of a document without a fault make a library.
 use Rattle.std.proofs.Common.{◌≡◌, ◌≢◌, codes, ℕ, ◌+◌, ◌-◌, ◌<◌, ◌≤◌, Bool, true, false, cond, nat_lt, List, [], ◌∷◌, ◌++◌, map, take, length, get_or, Option, Some, None, IfSome, refl, sym, ap, subst, ◌∙◌, arith}
 use Rattle.std.specs.Option.{option_map_or}
-use Rattle.std.specs.List.{All, AllPairs, AllByRecursion, list_any, filter_map, count_by}
+use Rattle.std.specs.List.{All, AllPairs, AllByRecursion, list_any, filter_map, flat_map, enumerate_from, range_with_len, count_by}
 use Rattle.std.specs.Str.{bytes_eq}
 use Rattle.std.specs.Cmp.Lexicographic.{bytes_decides}
-use Rattle.std.proofs.lemmas.List.{get_or-map, get_or-take, length-take-le, length-map}
+use Rattle.std.proofs.lemmas.List.{get_or-map, get_or-take, length-take-le, length-map, length-append}
 use Rattle.std.proofs.lemmas.List.Sums.{sum_by-append, count_by-le-length}
 use Rattle.toml.specs.Data.{Data, boolean}
 use Rattle.toml.specs.View.{view}
@@ -18,7 +18,7 @@ use Rattle.arch_model.specs.declared.library.Pattern.{Pattern}
 use Rattle.arch_model.specs.declared.library.Requirement.{Requirement}
 use Rattle.arch_model.specs.Parts.{TemplateParts, LibraryParts}
 use Rattle.arch_model.specs.Library.{IsTypeRow, IsLinkRow, IsPatternRow, IsLibrary, library_parts}
-use Rattle.arch_model.specs.Template.{template_of, components_of, edges_of, edges_of_link, instances_of}
+use Rattle.arch_model.specs.Template.{template_of, components_of, edges_of, edges_of_link, instances_of, instances_of_type}
 use Rattle.arch_model.specs.Member.{fails_of}
 use Rattle.lib_read.specs.declared.fault.LibClass.{LibClass}
 use Rattle.lib_read.specs.declared.fault.LibClass.TheVariants.{UnknownKey, MissingKey, WrongKind, BadName, Duplicate, UnknownName, Range}
@@ -27,8 +27,10 @@ use Rattle.lib_read.specs.declared.fault.TableName.TheVariants.{Library, Types, 
 use Rattle.lib_read.specs.Tree.{text_at, rows_of}
 use Rattle.lib_read.specs.Schema.{table_keys}
 use Rattle.lib_read.specs.Faults.{fault, faulty_keys, row_faults, table_faults, class_faults, is_repeat, repeat_faults, repeated_names, repeated_links, link_ends, same_ends, plain_faults, judged_faults}
+use Rattle.lib_read.specs.Components.{instance_name, instance_names, component_names}
 use Rattle.lib_read.specs.Rows.{type_names, type_row, link_row, pattern_row, types_of, links_of, patterns_of, library_of_tree, PatternFits}
 use Rattle.template.proofs.Numbers.{length-types-le}
+use Rattle.template.proofs.NameLaws.{instance_at}
 use Rattle.lib_read.proofs.ListFacts.{append_nil, map_nil, one_nil, flat_map_nil, all_index, all_rec, all_mapped, all_some, all_flat, all_of_map, values_all, length-values-le, none_passes}
 use Rattle.lib_read.proofs.CleanRows.{CleanType, CleanLink, CleanPattern, clean_type, clean_link, clean_pattern}
 
@@ -55,12 +57,12 @@ judged_parts top e =
 
 -- each row of a table without a fault of a class
 abbrev pub RowsClear : List (List ℕ) → LibClass → TableName → Data → Type 0
-RowsClear names class t top = All (λ row. faulty_keys names class (table_keys t row) row ≡ []) (rows_of t top)
+RowsClear names class t top = All (λ row. faulty_keys top names class (table_keys t row) row ≡ []) (rows_of t top)
 
 rows_clear : (names : List (List ℕ)) (class : LibClass) (t : TableName) (top : Data) → table_faults names class t top ≡ [] → RowsClear names class t top
 rows_clear names class t top e = λ i d here.
-    map_nil (fault class t (1 + i)) (faulty_keys names class (table_keys t (get_or (rows_of t top) i d)) (get_or (rows_of t top) i d))
-    (flat_map_nil (λ p. row_faults names class t p.0 p.1) 1 (rows_of t top) e i d here)
+    map_nil (fault class t (1 + i)) (faulty_keys top names class (table_keys t (get_or (rows_of t top) i d)) (get_or (rows_of t top) i d))
+    (flat_map_nil (λ p. row_faults top names class t p.0 p.1) 1 (rows_of t top) e i d here)
 
 pub record TablesClear (names : List (List ℕ)) (class : LibClass) (top : Data) : Type 0 where
   pub types : RowsClear names class Types top
@@ -69,7 +71,7 @@ pub record TablesClear (names : List (List ℕ)) (class : LibClass) (top : Data)
 
 tables_clear : (names : List (List ℕ)) (class : LibClass) (top : Data) → class_faults names class top ≡ [] → TablesClear names class top
 tables_clear names class top e =
-    let parts = append_nil (row_faults names class Library 0 top) (table_faults names class Types top ++ (table_faults names class Links top ++ table_faults names class Patterns top)) e in
+    let parts = append_nil (row_faults top names class Library 0 top) (table_faults names class Types top ++ (table_faults names class Links top ++ table_faults names class Patterns top)) e in
     let types = append_nil (table_faults names class Types top) (table_faults names class Links top ++ table_faults names class Patterns top) parts.1 in
     let links = append_nil (table_faults names class Links top) (table_faults names class Patterns top) types.1 in
     record {
@@ -80,17 +82,17 @@ tables_clear names class top e =
 
 pub clean_types : (top : Data) → Judged top → All CleanType (rows_of Types top)
 clean_types top j = λ i d here.
-    clean_type (type_names top) (get_or (rows_of Types top) i d) ((tables_clear [] MissingKey top j.missing).types i d here) ((tables_clear [] WrongKind top j.kind).types i d here)
+    clean_type top (type_names top) (get_or (rows_of Types top) i d) ((tables_clear [] MissingKey top j.missing).types i d here) ((tables_clear [] WrongKind top j.kind).types i d here)
     ((tables_clear [] BadName top j.bad).types i d here) ((tables_clear (type_names top) Range top j.range).types i d here)
 
 pub clean_links : (top : Data) → Judged top → All (CleanLink (type_names top)) (rows_of Links top)
 clean_links top j = λ i d here.
-    clean_link (type_names top) (get_or (rows_of Links top) i d) ((tables_clear [] MissingKey top j.missing).links i d here) ((tables_clear [] WrongKind top j.kind).links i d here)
+    clean_link top (type_names top) (get_or (rows_of Links top) i d) ((tables_clear [] MissingKey top j.missing).links i d here) ((tables_clear [] WrongKind top j.kind).links i d here)
     ((tables_clear (type_names top) UnknownName top j.unknown).links i d here) ((tables_clear (type_names top) Range top j.range).links i d here)
 
-pub clean_patterns : (top : Data) (n : ℕ) → Judged top → All (CleanPattern (type_names top) n) (rows_of Patterns top)
-clean_patterns top n j = λ i d here.
-    clean_pattern (type_names top) n (get_or (rows_of Patterns top) i d) ((tables_clear [] MissingKey top j.missing).patterns i d here) ((tables_clear [] WrongKind top j.kind).patterns i d here)
+pub clean_patterns : (top : Data) → Judged top → All (CleanPattern top (type_names top)) (rows_of Patterns top)
+clean_patterns top j = λ i d here.
+    clean_pattern top (type_names top) (get_or (rows_of Patterns top) i d) ((tables_clear [] MissingKey top j.missing).patterns i d here) ((tables_clear [] WrongKind top j.kind).patterns i d here)
     ((tables_clear (type_names top) UnknownName top j.unknown).patterns i d here) ((tables_clear (type_names top) Range top j.range).patterns i d here)
 
 -- a fact of each row, as one of what is made of it
@@ -115,15 +117,33 @@ links_fit top j =
     subst (λ n. All (IsLinkRow n) (links_of top)) (names_count top j)
     (made (IsLinkRow (length (type_names top))) (link_row (type_names top)) (rows_of Links top) (λ i d here. (clean_links top j i d here).fits))
 
-pub patterns_fit : (top : Data) (n : ℕ) → Judged top → All (IsPatternRow (length (types_of top)) n) (patterns_of top)
-patterns_fit top n j =
-    subst (λ k. All (IsPatternRow k n) (patterns_of top)) (names_count top j)
-    (all_index (IsPatternRow (length (type_names top)) n) (patterns_of top)
-    (all_some (IsPatternRow (length (type_names top)) n) (pattern_row (type_names top)) (rows_of Patterns top)
-    (all_rec (λ row. IfSome (pattern_row (type_names top) row) (IsPatternRow (length (type_names top)) n)) (rows_of Patterns top) (λ i d here. (clean_patterns top n j i d here).row_fits))))
+-- as many names of components as components
+made_many : (f : ℕ × TypeRow → List Component) (k : ℕ) (rs : List Data) → ((p : ℕ × TypeRow) → length (f p) ≡ length (range_with_len 1 p.1.max)) → length (flat_map instance_names rs) ≡ length (flat_map f (enumerate_from k (map type_row rs)))
+made_many f k [] each = refl
+made_many f k (row ∷ rs) each =
+    let rest = made_many f (k + 1) rs each in
+    omega (
+      arith,
+      length-append (instance_names row) (flat_map instance_names rs),
+      length-append (f (k, type_row row)) (flat_map f (enumerate_from (k + 1) (map type_row rs))),
+      length-map (range_with_len 1 (type_row row).max) (instance_name (type_row row).name),
+      each (k, type_row row),
+      rest,
+    )
+
+pub as_many : (top : Data) → length (component_names top) ≡ length (components_of (types_of top))
+as_many top = made_many (λ p. instances_of_type p.0 p.1) 0 (rows_of Types top) (λ p. length-map (range_with_len 1 p.1.max) (instance_at p.0 p.1))
+
+pub patterns_fit : (top : Data) → Judged top → All (IsPatternRow (length (types_of top)) (length (components_of (types_of top)))) (patterns_of top)
+patterns_fit top j =
+    subst (λ k. All (IsPatternRow (length (types_of top)) k) (patterns_of top)) (as_many top)
+    (subst (λ k. All (IsPatternRow k (length (component_names top))) (patterns_of top)) (names_count top j)
+    (all_index (IsPatternRow (length (type_names top)) (length (component_names top))) (patterns_of top)
+    (all_some (IsPatternRow (length (type_names top)) (length (component_names top))) (pattern_row (type_names top) (component_names top)) (rows_of Patterns top)
+    (all_rec (λ row. IfSome (pattern_row (type_names top) (component_names top) row) (IsPatternRow (length (type_names top)) (length (component_names top)))) (rows_of Patterns top) (λ i d here. (clean_patterns top j i d here).row_fits)))))
 
 pub pattern_rows_fit : (top : Data) → Judged top → All PatternFits (rows_of Patterns top)
-pattern_rows_fit top j = λ i d here. (clean_patterns top 0 j i d here).fits
+pattern_rows_fit top j = λ i d here. (clean_patterns top j i d here).fits
 
 -- no row has the value of an earlier one
 not_repeated : {X : Type 0} (same : X → X → Bool) (value : Data → Option X) (t : TableName) (key : List ℕ) (top : Data) → repeat_faults same value t key top ≡ []
@@ -213,12 +233,12 @@ is_library top j components edges patterns = record {
   pairs = links_differ top j;
   components = refl;
   edges = refl;
-  patterns = patterns_fit top (length (components_of (types_of top))) j;
+  patterns = patterns_fit top j;
   sinks = λ i d here. absurd (omega arith);
   bounds = λ i d here. absurd (omega arith);
   few_components = components;
   few_edges = edges;
-  few_patterns = omega (arith, length-values-le (pattern_row (type_names top)) (rows_of Patterns top));
+  few_patterns = omega (arith, length-values-le (pattern_row (type_names top) (component_names top)) (rows_of Patterns top));
   few_requirements = omega arith;
   few_failing = few_fail (library_of_tree top) components
       (all_flat (λ link. link.fail ≡ 0) (λ e. e.fail ≡ 0) (edges_of_link (components_of (types_of top))) (edges_hold (components_of (types_of top))) (links_of top) (all_of_map (λ link. link.fail ≡ 0) (link_row (type_names top)) (λ row. refl) (rows_of Links top)));

@@ -1,5 +1,5 @@
 -- What a row without a fault says.
-use Rattle.std.proofs.Common.{◌≡◌, codes, ℕ, ℤ, pos, negsuc, suc, ◌+◌, ◌^◌, ◌<◌, ◌≤◌, Bool, true, false, cond, ◌&&◌, ◌||◌, not, nat_le, List, [], ◌∷◌, map, filter, length, get_or, Option, Some, None, is_some, is_none, unwrap_or, option_map, IfSome, refl, sym, ap, subst, ◌∙◌, arith, lt-ltb, lit≤}
+use Rattle.std.proofs.Common.{◌≡◌, ◌≢◌, codes, ℕ, ℤ, pos, negsuc, suc, ◌+◌, ◌^◌, ◌<◌, ◌≤◌, Bool, true, false, cond, ◌&&◌, ◌||◌, not, nat_le, List, [], ◌∷◌, map, filter, length, get_or, Option, Some, None, is_some, is_none, unwrap_or, option_map, IfSome, refl, sym, ap, subst, ◌∙◌, arith, lt-ltb, lit≤}
 use Rattle.std.specs.Option.{option_map_or, option_and_then}
 use Rattle.std.specs.List.{AllByRecursion, list_any, list_all, position, prefix_len}
 use Rattle.std.specs.Str.{bytes_eq}
@@ -10,11 +10,12 @@ use Rattle.arch_model.specs.Name.{IsTypeName, begins_lower, is_name_byte}
 use Rattle.arch_model.specs.Library.{IsTypeRow, IsLinkRow, IsPatternRow}
 use Rattle.lib_read.specs.declared.fault.LibClass.TheVariants.{MissingKey, WrongKind, BadName, UnknownName, Range}
 use Rattle.lib_read.specs.declared.schema.Kind.{Kind}
-use Rattle.lib_read.specs.declared.schema.Kind.TheVariants.{Count}
+use Rattle.lib_read.specs.declared.schema.Kind.TheVariants.{Count, InDegree, OutDegree, InNeedsOut, Exclusive, Implies, Forbid, TotalSupply, LocalSupply, CostCap}
 use Rattle.lib_read.specs.Tree.{text_at, integer_at}
 use Rattle.lib_read.specs.Schema.{KeyRow, type_keys, link_keys, kind_keys, any_keys, row_kind, is_faulty, is_named, is_type_name, is_between}
 use Rattle.lib_read.specs.Faults.{faulty_keys, link_ends}
-use Rattle.lib_read.specs.Rows.{number, type_row, link_row, kind_row, pattern_row, KindFits, PatternFits}
+use Rattle.lib_read.specs.Components.{number, component_names}
+use Rattle.lib_read.specs.Rows.{type_at, type_row, link_row, kind_row, pattern_row, KindFits, PatternFits}
 use Rattle.arch_model.proofs.Members.{and_left, and_right}
 use Rattle.lib_read.proofs.ListFacts.{map_nil, filter_nil}
 
@@ -68,14 +69,14 @@ pub none_faulty : (p : KeyRow → Bool) (keys : List KeyRow) → map (λ key. ke
 none_faulty p keys e = filter_nil p keys (map_nil (λ key. key.name) (filter p keys) e)
 
 -- a row without a wrong kind is a table
-pub for_table : (P : Data → Type 0) (names : List (List ℕ)) (keys : List KeyRow) → ((ms : Members) → P (table ms)) → (row : Data) → faulty_keys names WrongKind keys row ≡ [] → P row
-for_table P names keys each (string s) e = absurd (cc)
-for_table P names keys each (integer z) e = absurd (cc)
-for_table P names keys each (float x) e = absurd (cc)
-for_table P names keys each (boolean b) e = absurd (cc)
-for_table P names keys each (datetime dt) e = absurd (cc)
-for_table P names keys each (array ds) e = absurd (cc)
-for_table P names keys each (table ms) e = each ms
+pub for_table : (top : Data) (P : Data → Type 0) (names : List (List ℕ)) (keys : List KeyRow) → ((ms : Members) → P (table ms)) → (row : Data) → faulty_keys top names WrongKind keys row ≡ [] → P row
+for_table top P names keys each (string s) e = absurd (cc)
+for_table top P names keys each (integer z) e = absurd (cc)
+for_table top P names keys each (float x) e = absurd (cc)
+for_table top P names keys each (boolean b) e = absurd (cc)
+for_table top P names keys each (datetime dt) e = absurd (cc)
+for_table top P names keys each (array ds) e = absurd (cc)
+for_table top P names keys each (table ms) e = each ms
 
 -- a type's row
 pub record CleanType (row : Data) : Type 0 where
@@ -86,14 +87,14 @@ named_so : (o : Option (List ℕ)) (s : List ℕ) → Some s ≡ o → (unwrap_o
 named_so None s e = absurd (cc)
 named_so (Some t) s e = let same : t ≡ s = cc in (same, refl)
 
-clean_table : (names : List (List ℕ)) (ms : Members) → faulty_keys [] MissingKey type_keys (table ms) ≡ [] → faulty_keys [] WrongKind type_keys (table ms) ≡ []
-    → faulty_keys [] BadName type_keys (table ms) ≡ [] → faulty_keys names Range type_keys (table ms) ≡ [] → CleanType (table ms)
-clean_table names ms missing kind bad range =
+clean_table : (top : Data) (names : List (List ℕ)) (ms : Members) → faulty_keys top [] MissingKey type_keys (table ms) ≡ [] → faulty_keys top [] WrongKind type_keys (table ms) ≡ []
+    → faulty_keys top [] BadName type_keys (table ms) ≡ [] → faulty_keys top names Range type_keys (table ms) ≡ [] → CleanType (table ms)
+clean_table top names ms missing kind bad range =
     let row : Data = table ms in
-    let m = none_faulty (is_faulty [] MissingKey row) type_keys missing in
-    let k = none_faulty (is_faulty [] WrongKind row) type_keys kind in
-    let b = none_faulty (is_faulty [] BadName row) type_keys bad in
-    let r = none_faulty (is_faulty names Range row) type_keys range in
+    let m = none_faulty (is_faulty top [] MissingKey row) type_keys missing in
+    let k = none_faulty (is_faulty top [] WrongKind row) type_keys kind in
+    let b = none_faulty (is_faulty top [] BadName row) type_keys bad in
+    let r = none_faulty (is_faulty top names Range row) type_keys range in
     let name = text_there (get (codes "name") row) m.1.1.1.1.0 k.1.1.1.1.0 in
     let so = named_so (text_at (codes "name") row) name.0 name.1 in
     let form = text_passes is_type_name (text_at (codes "name") row) name.0 name.1 b.1.1.1.1.0 in
@@ -110,11 +111,11 @@ clean_table names ms missing kind bad range =
       named = so.1;
     }
 
-pub clean_type : (names : List (List ℕ)) (row : Data) → faulty_keys [] MissingKey type_keys row ≡ [] → faulty_keys [] WrongKind type_keys row ≡ []
-    → faulty_keys [] BadName type_keys row ≡ [] → faulty_keys names Range type_keys row ≡ [] → CleanType row
-clean_type names row missing kind bad range =
-    for_table (λ d. faulty_keys [] MissingKey type_keys d ≡ [] → faulty_keys [] WrongKind type_keys d ≡ [] → faulty_keys [] BadName type_keys d ≡ [] → faulty_keys names Range type_keys d ≡ [] → CleanType d)
-    [] type_keys (clean_table names) row kind missing kind bad range
+pub clean_type : (top : Data) (names : List (List ℕ)) (row : Data) → faulty_keys top [] MissingKey type_keys row ≡ [] → faulty_keys top [] WrongKind type_keys row ≡ []
+    → faulty_keys top [] BadName type_keys row ≡ [] → faulty_keys top names Range type_keys row ≡ [] → CleanType row
+clean_type top names row missing kind bad range =
+    for_table top (λ d. faulty_keys top [] MissingKey type_keys d ≡ [] → faulty_keys top [] WrongKind type_keys d ≡ [] → faulty_keys top [] BadName type_keys d ≡ [] → faulty_keys top names Range type_keys d ≡ [] → CleanType d)
+    [] type_keys (clean_table top names) row kind missing kind bad range
 
 -- a name's number, and the name at that number
 found_below : (p : List ℕ → Bool) (names : List (List ℕ)) → list_any p names ≡ true → (prefix_len (λ x. not (p x)) names < length names) × ((d : List ℕ) → p (get_or names (prefix_len (λ x. not (p x)) names) d) ≡ true)
@@ -149,14 +150,14 @@ pair a b = (a, b)
 both_ends : (o p : Option (List ℕ)) (a b : List ℕ) → Some a ≡ o → Some b ≡ p → Some (pair a b) ≡ option_and_then (λ from. option_map (pair from) p) o
 both_ends o p a b e f = rw (← e, ← f)
 
-clean_link_table : (names : List (List ℕ)) (ms : Members) → faulty_keys [] MissingKey link_keys (table ms) ≡ [] → faulty_keys [] WrongKind link_keys (table ms) ≡ []
-    → faulty_keys names UnknownName link_keys (table ms) ≡ [] → faulty_keys names Range link_keys (table ms) ≡ [] → CleanLink names (table ms)
-clean_link_table names ms missing kind unknown range =
+clean_link_table : (top : Data) (names : List (List ℕ)) (ms : Members) → faulty_keys top [] MissingKey link_keys (table ms) ≡ [] → faulty_keys top [] WrongKind link_keys (table ms) ≡ []
+    → faulty_keys top names UnknownName link_keys (table ms) ≡ [] → faulty_keys top names Range link_keys (table ms) ≡ [] → CleanLink names (table ms)
+clean_link_table top names ms missing kind unknown range =
     let row : Data = table ms in
-    let m = none_faulty (is_faulty [] MissingKey row) link_keys missing in
-    let k = none_faulty (is_faulty [] WrongKind row) link_keys kind in
-    let u = none_faulty (is_faulty names UnknownName row) link_keys unknown in
-    let r = none_faulty (is_faulty names Range row) link_keys range in
+    let m = none_faulty (is_faulty top [] MissingKey row) link_keys missing in
+    let k = none_faulty (is_faulty top [] WrongKind row) link_keys kind in
+    let u = none_faulty (is_faulty top names UnknownName row) link_keys unknown in
+    let r = none_faulty (is_faulty top names Range row) link_keys range in
     let from = text_there (get (codes "from") row) m.1.0 k.1.0 in
     let to = text_there (get (codes "to") row) m.1.1.0 k.1.1.0 in
     let tail = numbered names from.0 (text_at (codes "from") row) from.1 (text_passes (is_named names) (text_at (codes "from") row) from.0 from.1 u.1.0) in
@@ -171,49 +172,182 @@ clean_link_table names ms missing kind unknown range =
       ends = ap (λ a. Some (pair a (get_or names (link_row names row).to []))) tail.1 ∙ ap (λ b. Some (pair from.0 b)) head.1 ∙ both_ends (text_at (codes "from") row) (text_at (codes "to") row) from.0 to.0 from.1 to.1;
     }
 
-pub clean_link : (names : List (List ℕ)) (row : Data) → faulty_keys [] MissingKey link_keys row ≡ [] → faulty_keys [] WrongKind link_keys row ≡ []
-    → faulty_keys names UnknownName link_keys row ≡ [] → faulty_keys names Range link_keys row ≡ [] → CleanLink names row
-clean_link names row missing kind unknown range =
-    for_table (λ d. faulty_keys [] MissingKey link_keys d ≡ [] → faulty_keys [] WrongKind link_keys d ≡ [] → faulty_keys names UnknownName link_keys d ≡ [] → faulty_keys names Range link_keys d ≡ [] → CleanLink names d)
-    [] link_keys (clean_link_table names) row kind missing kind unknown range
+pub clean_link : (top : Data) (names : List (List ℕ)) (row : Data) → faulty_keys top [] MissingKey link_keys row ≡ [] → faulty_keys top [] WrongKind link_keys row ≡ []
+    → faulty_keys top names UnknownName link_keys row ≡ [] → faulty_keys top names Range link_keys row ≡ [] → CleanLink names row
+clean_link top names row missing kind unknown range =
+    for_table top (λ d. faulty_keys top [] MissingKey link_keys d ≡ [] → faulty_keys top [] WrongKind link_keys d ≡ [] → faulty_keys top names UnknownName link_keys d ≡ [] → faulty_keys top names Range link_keys d ≡ [] → CleanLink names d)
+    [] link_keys (clean_link_table top names) row kind missing kind unknown range
 
 -- a pattern's row
-pub record CleanPattern (names : List (List ℕ)) (components : ℕ) (row : Data) : Type 0 where
-  pub row_fits : IfSome (pattern_row names row) (IsPatternRow (length names) components)
+pub record CleanPattern (top : Data) (names : List (List ℕ)) (row : Data) : Type 0 where
+  pub row_fits : IfSome (pattern_row names (component_names top) row) (IsPatternRow (length names) (length (component_names top)))
   pub fits : PatternFits row
 
-clean_count : (names : List (List ℕ)) (n : ℕ) (ms : Members) → faulty_keys [] MissingKey (kind_keys Count) (table ms) ≡ [] → faulty_keys [] WrongKind (kind_keys Count) (table ms) ≡ []
-    → faulty_keys names UnknownName (kind_keys Count) (table ms) ≡ [] → faulty_keys names Range (kind_keys Count) (table ms) ≡ [] → IsPatternRow (length names) n (kind_row names (table ms) Count) × KindFits (table ms) Count
-clean_count names n ms missing kind unknown range =
+-- a type that a key names
+record TypeFound (names : List (List ℕ)) (key : List ℕ) (row : Data) : Type 0 where
+  below : type_at names key row < length names
+  text : List ℕ
+  there : Some text ≡ text_at key row
+  named : get_or names (type_at names key row) [] ≡ text
+
+type_found : (names : List (List ℕ)) (key : List ℕ) (row : Data) → is_none (get key row) ≡ false → option_map_or (λ value. not (is_some (as_str value))) (get key row) false ≡ false
+    → option_map_or (λ text. not (is_named names text)) (text_at key row) false ≡ false → TypeFound names key row
+type_found names key row here kind known =
+    let of = text_there (get key row) here kind in
+    let at = numbered names of.0 (text_at key row) of.1 (text_passes (is_named names) (text_at key row) of.0 of.1 known) in
+    record { below = at.0; text = of.0; there = of.1; named = at.1 }
+
+-- two keys that name different types
+unlike : (first : List ℕ) (o p : Option (List ℕ)) (a b : List ℕ) → Some a ≡ o → Some b ≡ p → option_map_or (λ x. option_map_or (bytes_eq x) p false) o false ≡ false → a ≢ b
+unlike first None p a b e f fails same = absurd (cc)
+unlike first (Some x) None a b e f fails same = absurd (cc)
+unlike first (Some x) (Some y) a b e f fails same =
+    let yes : bytes_eq x y ≡ true = (bytes_decides x y).1 (cc) in
+    absurd (cc)
+
+other_types : (names : List (List ℕ)) (row : Data) → TypeFound names (codes "a") row → TypeFound names (codes "b") row
+    → option_map_or (λ x. option_map_or (bytes_eq x) (text_at (codes "b") row) false) (text_at (codes "a") row) false ≡ false → type_at names (codes "a") row ≢ type_at names (codes "b") row
+other_types names row a b fails same =
+    unlike [] (text_at (codes "a") row) (text_at (codes "b") row) a.text b.text a.there b.there fails (sym a.named ∙ ap (λ n. get_or names n []) same ∙ b.named)
+
+clean_count : (top : Data) (names : List (List ℕ)) (ms : Members) → faulty_keys top [] MissingKey (kind_keys Count) (table ms) ≡ [] → faulty_keys top [] WrongKind (kind_keys Count) (table ms) ≡ []
+    → faulty_keys top names UnknownName (kind_keys Count) (table ms) ≡ [] → faulty_keys top names Range (kind_keys Count) (table ms) ≡ [] → IsPatternRow (length names) (length (component_names top)) (kind_row names (component_names top) (table ms) Count) × KindFits (table ms) Count
+clean_count top names ms missing kind unknown range =
     let row : Data = table ms in
-    let m = none_faulty (is_faulty [] MissingKey row) (kind_keys Count) missing in
-    let k = none_faulty (is_faulty [] WrongKind row) (kind_keys Count) kind in
-    let u = none_faulty (is_faulty names UnknownName row) (kind_keys Count) unknown in
-    let r = none_faulty (is_faulty names Range row) (kind_keys Count) range in
-    let of = text_there (get (codes "type") row) m.1.1.1.0 k.1.1.1.0 in
-    let at = numbered names of.0 (text_at (codes "type") row) of.1 (text_passes (is_named names) (text_at (codes "type") row) of.0 of.1 u.1.1.1.0) in
+    let m = none_faulty (is_faulty top [] MissingKey row) (kind_keys Count) missing in
+    let k = none_faulty (is_faulty top [] WrongKind row) (kind_keys Count) kind in
+    let u = none_faulty (is_faulty top names UnknownName row) (kind_keys Count) unknown in
+    let r = none_faulty (is_faulty top names Range row) (kind_keys Count) range in
+    let of = type_found names (codes "type") row m.1.1.1.0 k.1.1.1.0 u.1.1.1.0 in
     let min = (number_within 0 512 0 (integer_at (codes "min") row) (lit≤ tt) (lit≤ tt) r.1.1.0).1 in
     let max = number_few 0 512 (integer_at (codes "max") row) r.1.0 in
-    ((at.0, (min, max)), (min, max))
+    ((of.below, (min, max)), (min, max))
 
-clean_kind : (names : List (List ℕ)) (n : ℕ) (ms : Members) (o : Option Kind)
-    → faulty_keys [] MissingKey (option_map_or kind_keys o any_keys) (table ms) ≡ [] → faulty_keys [] WrongKind (option_map_or kind_keys o any_keys) (table ms) ≡ []
-    → faulty_keys names UnknownName (option_map_or kind_keys o any_keys) (table ms) ≡ [] → faulty_keys names Range (option_map_or kind_keys o any_keys) (table ms) ≡ []
-    → IfSome (option_map (kind_row names (table ms)) o) (IsPatternRow (length names) n) × IfSome o (KindFits (table ms))
-clean_kind names n ms None missing kind unknown range = (tt, tt)
-clean_kind names n ms (Some Count) missing kind unknown range = clean_count names n ms missing kind unknown range
+clean_indegree : (top : Data) (names : List (List ℕ)) (ms : Members) → faulty_keys top [] MissingKey (kind_keys InDegree) (table ms) ≡ [] → faulty_keys top [] WrongKind (kind_keys InDegree) (table ms) ≡ []
+    → faulty_keys top names UnknownName (kind_keys InDegree) (table ms) ≡ [] → faulty_keys top names Range (kind_keys InDegree) (table ms) ≡ [] → IsPatternRow (length names) (length (component_names top)) (kind_row names (component_names top) (table ms) InDegree) × KindFits (table ms) InDegree
+clean_indegree top names ms missing kind unknown range =
+    let row : Data = table ms in
+    let m = none_faulty (is_faulty top [] MissingKey row) (kind_keys InDegree) missing in
+    let k = none_faulty (is_faulty top [] WrongKind row) (kind_keys InDegree) kind in
+    let u = none_faulty (is_faulty top names UnknownName row) (kind_keys InDegree) unknown in
+    let r = none_faulty (is_faulty top names Range row) (kind_keys InDegree) range in
+    let of = type_found names (codes "type") row m.1.1.1.1.0 k.1.1.1.1.0 u.1.1.1.1.0 in
+    let from = type_found names (codes "from") row m.0 k.0 u.0 in
+    let min = (number_within 0 512 0 (integer_at (codes "min") row) (lit≤ tt) (lit≤ tt) r.1.1.1.0).1 in
+    let max = number_few 0 512 (integer_at (codes "max") row) r.1.1.0 in
+    ((of.below, from.below, (min, max)), (min, max))
+
+clean_outdegree : (top : Data) (names : List (List ℕ)) (ms : Members) → faulty_keys top [] MissingKey (kind_keys OutDegree) (table ms) ≡ [] → faulty_keys top [] WrongKind (kind_keys OutDegree) (table ms) ≡ []
+    → faulty_keys top names UnknownName (kind_keys OutDegree) (table ms) ≡ [] → faulty_keys top names Range (kind_keys OutDegree) (table ms) ≡ [] → IsPatternRow (length names) (length (component_names top)) (kind_row names (component_names top) (table ms) OutDegree) × KindFits (table ms) OutDegree
+clean_outdegree top names ms missing kind unknown range =
+    let row : Data = table ms in
+    let m = none_faulty (is_faulty top [] MissingKey row) (kind_keys OutDegree) missing in
+    let k = none_faulty (is_faulty top [] WrongKind row) (kind_keys OutDegree) kind in
+    let u = none_faulty (is_faulty top names UnknownName row) (kind_keys OutDegree) unknown in
+    let r = none_faulty (is_faulty top names Range row) (kind_keys OutDegree) range in
+    let of = type_found names (codes "type") row m.1.1.1.1.0 k.1.1.1.1.0 u.1.1.1.1.0 in
+    let to = type_found names (codes "to") row m.1.1.1.0 k.1.1.1.0 u.1.1.1.0 in
+    let min = (number_within 0 512 0 (integer_at (codes "min") row) (lit≤ tt) (lit≤ tt) r.1.1.0).1 in
+    let max = number_few 0 512 (integer_at (codes "max") row) r.1.0 in
+    ((of.below, to.below, (min, max)), (min, max))
+
+clean_in_needs_out : (top : Data) (names : List (List ℕ)) (ms : Members) → faulty_keys top [] MissingKey (kind_keys InNeedsOut) (table ms) ≡ [] → faulty_keys top [] WrongKind (kind_keys InNeedsOut) (table ms) ≡ []
+    → faulty_keys top names UnknownName (kind_keys InNeedsOut) (table ms) ≡ [] → faulty_keys top names Range (kind_keys InNeedsOut) (table ms) ≡ [] → IsPatternRow (length names) (length (component_names top)) (kind_row names (component_names top) (table ms) InNeedsOut) × KindFits (table ms) InNeedsOut
+clean_in_needs_out top names ms missing kind unknown range =
+    let row : Data = table ms in
+    let m = none_faulty (is_faulty top [] MissingKey row) (kind_keys InNeedsOut) missing in
+    let k = none_faulty (is_faulty top [] WrongKind row) (kind_keys InNeedsOut) kind in
+    let u = none_faulty (is_faulty top names UnknownName row) (kind_keys InNeedsOut) unknown in
+    let of = type_found names (codes "type") row m.1.1.1.0 k.1.1.1.0 u.1.1.1.0 in
+    let from = type_found names (codes "from") row m.0 k.0 u.0 in
+    let to = type_found names (codes "to") row m.1.1.0 k.1.1.0 u.1.1.0 in
+    ((of.below, from.below, to.below), tt)
+
+clean_exclusive : (top : Data) (names : List (List ℕ)) (ms : Members) → faulty_keys top [] MissingKey (kind_keys Exclusive) (table ms) ≡ [] → faulty_keys top [] WrongKind (kind_keys Exclusive) (table ms) ≡ []
+    → faulty_keys top names UnknownName (kind_keys Exclusive) (table ms) ≡ [] → faulty_keys top names Range (kind_keys Exclusive) (table ms) ≡ [] → IsPatternRow (length names) (length (component_names top)) (kind_row names (component_names top) (table ms) Exclusive) × KindFits (table ms) Exclusive
+clean_exclusive top names ms missing kind unknown range =
+    let row : Data = table ms in
+    let m = none_faulty (is_faulty top [] MissingKey row) (kind_keys Exclusive) missing in
+    let k = none_faulty (is_faulty top [] WrongKind row) (kind_keys Exclusive) kind in
+    let u = none_faulty (is_faulty top names UnknownName row) (kind_keys Exclusive) unknown in
+    let r = none_faulty (is_faulty top names Range row) (kind_keys Exclusive) range in
+    let of = type_found names (codes "type") row m.1.1.1.0 k.1.1.1.0 u.1.1.1.0 in
+    let a = type_found names (codes "a") row m.0 k.0 u.0 in
+    let b = type_found names (codes "b") row m.1.0 k.1.0 u.1.0 in
+    ((of.below, a.below, b.below, other_types names row a b r.1.0), tt)
+
+clean_implies : (top : Data) (names : List (List ℕ)) (ms : Members) → faulty_keys top [] MissingKey (kind_keys Implies) (table ms) ≡ [] → faulty_keys top [] WrongKind (kind_keys Implies) (table ms) ≡ []
+    → faulty_keys top names UnknownName (kind_keys Implies) (table ms) ≡ [] → faulty_keys top names Range (kind_keys Implies) (table ms) ≡ [] → IsPatternRow (length names) (length (component_names top)) (kind_row names (component_names top) (table ms) Implies) × KindFits (table ms) Implies
+clean_implies top names ms missing kind unknown range =
+    let row : Data = table ms in
+    let m = none_faulty (is_faulty top [] MissingKey row) (kind_keys Implies) missing in
+    let k = none_faulty (is_faulty top [] WrongKind row) (kind_keys Implies) kind in
+    let u = none_faulty (is_faulty top names UnknownName row) (kind_keys Implies) unknown in
+    let a = type_found names (codes "a") row m.0 k.0 u.0 in
+    let b = type_found names (codes "b") row m.1.0 k.1.0 u.1.0 in
+    ((a.below, b.below), tt)
+
+clean_forbid : (top : Data) (names : List (List ℕ)) (ms : Members) → faulty_keys top [] MissingKey (kind_keys Forbid) (table ms) ≡ [] → faulty_keys top [] WrongKind (kind_keys Forbid) (table ms) ≡ []
+    → faulty_keys top names UnknownName (kind_keys Forbid) (table ms) ≡ [] → faulty_keys top names Range (kind_keys Forbid) (table ms) ≡ [] → IsPatternRow (length names) (length (component_names top)) (kind_row names (component_names top) (table ms) Forbid) × KindFits (table ms) Forbid
+clean_forbid top names ms missing kind unknown range =
+    let row : Data = table ms in
+    let m = none_faulty (is_faulty top [] MissingKey row) (kind_keys Forbid) missing in
+    let k = none_faulty (is_faulty top [] WrongKind row) (kind_keys Forbid) kind in
+    let u = none_faulty (is_faulty top names UnknownName row) (kind_keys Forbid) unknown in
+    let from = type_found (component_names top) (codes "from") row m.0 k.0 u.0 in
+    let to = type_found (component_names top) (codes "to") row m.1.1.0 k.1.1.0 u.1.1.0 in
+    ((from.below, to.below), tt)
+
+clean_total_supply : (top : Data) (names : List (List ℕ)) (ms : Members) → faulty_keys top [] MissingKey (kind_keys TotalSupply) (table ms) ≡ [] → faulty_keys top [] WrongKind (kind_keys TotalSupply) (table ms) ≡ []
+    → faulty_keys top names UnknownName (kind_keys TotalSupply) (table ms) ≡ [] → faulty_keys top names Range (kind_keys TotalSupply) (table ms) ≡ [] → IsPatternRow (length names) (length (component_names top)) (kind_row names (component_names top) (table ms) TotalSupply) × KindFits (table ms) TotalSupply
+clean_total_supply top names ms missing kind unknown range =
+    let row : Data = table ms in
+    (tt, tt)
+
+clean_local_supply : (top : Data) (names : List (List ℕ)) (ms : Members) → faulty_keys top [] MissingKey (kind_keys LocalSupply) (table ms) ≡ [] → faulty_keys top [] WrongKind (kind_keys LocalSupply) (table ms) ≡ []
+    → faulty_keys top names UnknownName (kind_keys LocalSupply) (table ms) ≡ [] → faulty_keys top names Range (kind_keys LocalSupply) (table ms) ≡ [] → IsPatternRow (length names) (length (component_names top)) (kind_row names (component_names top) (table ms) LocalSupply) × KindFits (table ms) LocalSupply
+clean_local_supply top names ms missing kind unknown range =
+    let row : Data = table ms in
+    let m = none_faulty (is_faulty top [] MissingKey row) (kind_keys LocalSupply) missing in
+    let k = none_faulty (is_faulty top [] WrongKind row) (kind_keys LocalSupply) kind in
+    let u = none_faulty (is_faulty top names UnknownName row) (kind_keys LocalSupply) unknown in
+    let of = type_found names (codes "type") row m.1.0 k.1.0 u.1.0 in
+    (of.below, tt)
+
+clean_cost_cap : (top : Data) (names : List (List ℕ)) (ms : Members) → faulty_keys top [] MissingKey (kind_keys CostCap) (table ms) ≡ [] → faulty_keys top [] WrongKind (kind_keys CostCap) (table ms) ≡ []
+    → faulty_keys top names UnknownName (kind_keys CostCap) (table ms) ≡ [] → faulty_keys top names Range (kind_keys CostCap) (table ms) ≡ [] → IsPatternRow (length names) (length (component_names top)) (kind_row names (component_names top) (table ms) CostCap) × KindFits (table ms) CostCap
+clean_cost_cap top names ms missing kind unknown range =
+    let row : Data = table ms in
+    let r = none_faulty (is_faulty top names Range row) (kind_keys CostCap) range in
+    ((number_within 0 (10 ^ 15) 0 (integer_at (codes "max") row) (lit≤ tt) (lit≤ tt) r.1.0).1, tt)
+
+clean_kind : (top : Data) (names : List (List ℕ)) (ms : Members) (o : Option Kind)
+    → faulty_keys top [] MissingKey (option_map_or kind_keys o any_keys) (table ms) ≡ [] → faulty_keys top [] WrongKind (option_map_or kind_keys o any_keys) (table ms) ≡ []
+    → faulty_keys top names UnknownName (option_map_or kind_keys o any_keys) (table ms) ≡ [] → faulty_keys top names Range (option_map_or kind_keys o any_keys) (table ms) ≡ []
+    → IfSome (option_map (kind_row names (component_names top) (table ms)) o) (IsPatternRow (length names) (length (component_names top))) × IfSome o (KindFits (table ms))
+clean_kind top names ms None missing kind unknown range = (tt, tt)
+clean_kind top names ms (Some Count) missing kind unknown range = clean_count top names ms missing kind unknown range
+clean_kind top names ms (Some InDegree) missing kind unknown range = clean_indegree top names ms missing kind unknown range
+clean_kind top names ms (Some OutDegree) missing kind unknown range = clean_outdegree top names ms missing kind unknown range
+clean_kind top names ms (Some InNeedsOut) missing kind unknown range = clean_in_needs_out top names ms missing kind unknown range
+clean_kind top names ms (Some Exclusive) missing kind unknown range = clean_exclusive top names ms missing kind unknown range
+clean_kind top names ms (Some Implies) missing kind unknown range = clean_implies top names ms missing kind unknown range
+clean_kind top names ms (Some Forbid) missing kind unknown range = clean_forbid top names ms missing kind unknown range
+clean_kind top names ms (Some TotalSupply) missing kind unknown range = clean_total_supply top names ms missing kind unknown range
+clean_kind top names ms (Some LocalSupply) missing kind unknown range = clean_local_supply top names ms missing kind unknown range
+clean_kind top names ms (Some CostCap) missing kind unknown range = clean_cost_cap top names ms missing kind unknown range
 
 abbrev pub pattern_keys : Data → List KeyRow
 pattern_keys row = option_map_or kind_keys (row_kind row) any_keys
 
-clean_pattern_table : (names : List (List ℕ)) (n : ℕ) (ms : Members) → faulty_keys [] MissingKey (pattern_keys (table ms)) (table ms) ≡ [] → faulty_keys [] WrongKind (pattern_keys (table ms)) (table ms) ≡ []
-    → faulty_keys names UnknownName (pattern_keys (table ms)) (table ms) ≡ [] → faulty_keys names Range (pattern_keys (table ms)) (table ms) ≡ [] → CleanPattern names n (table ms)
-clean_pattern_table names n ms missing kind unknown range =
-    let both = clean_kind names n ms (row_kind (table ms)) missing kind unknown range in
+clean_pattern_table : (top : Data) (names : List (List ℕ)) (ms : Members) → faulty_keys top [] MissingKey (pattern_keys (table ms)) (table ms) ≡ [] → faulty_keys top [] WrongKind (pattern_keys (table ms)) (table ms) ≡ []
+    → faulty_keys top names UnknownName (pattern_keys (table ms)) (table ms) ≡ [] → faulty_keys top names Range (pattern_keys (table ms)) (table ms) ≡ [] → CleanPattern top names (table ms)
+clean_pattern_table top names ms missing kind unknown range =
+    let both = clean_kind top names ms (row_kind (table ms)) missing kind unknown range in
     record { row_fits = both.0; fits = both.1 }
 
-pub clean_pattern : (names : List (List ℕ)) (n : ℕ) (row : Data) → faulty_keys [] MissingKey (pattern_keys row) row ≡ [] → faulty_keys [] WrongKind (pattern_keys row) row ≡ []
-    → faulty_keys names UnknownName (pattern_keys row) row ≡ [] → faulty_keys names Range (pattern_keys row) row ≡ [] → CleanPattern names n row
-clean_pattern names n row missing kind unknown range =
-    for_table (λ d. faulty_keys [] MissingKey (pattern_keys d) d ≡ [] → faulty_keys [] WrongKind (pattern_keys d) d ≡ [] → faulty_keys names UnknownName (pattern_keys d) d ≡ [] → faulty_keys names Range (pattern_keys d) d ≡ [] → CleanPattern names n d)
-    [] (pattern_keys row) (clean_pattern_table names n) row kind missing kind unknown range
+pub clean_pattern : (top : Data) (names : List (List ℕ)) (row : Data) → faulty_keys top [] MissingKey (pattern_keys row) row ≡ [] → faulty_keys top [] WrongKind (pattern_keys row) row ≡ []
+    → faulty_keys top names UnknownName (pattern_keys row) row ≡ [] → faulty_keys top names Range (pattern_keys row) row ≡ [] → CleanPattern top names row
+clean_pattern top names row missing kind unknown range =
+    for_table top (λ d. faulty_keys top [] MissingKey (pattern_keys d) d ≡ [] → faulty_keys top [] WrongKind (pattern_keys d) d ≡ [] → faulty_keys top names UnknownName (pattern_keys d) d ≡ [] → faulty_keys top names Range (pattern_keys d) d ≡ [] → CleanPattern top names d)
+    [] (pattern_keys row) (clean_pattern_table top names) row kind missing kind unknown range

@@ -1,6 +1,9 @@
 pub mod TreeLemmas
 pub mod NameLemmas
-pub mod FirstLemmas
+pub mod LeastLemmas
+pub mod KeyOrder
+pub mod PartLemmas
+pub mod ComponentLemmas
 pub mod RepeatLemmas
 pub mod ListFacts
 pub mod CleanRows

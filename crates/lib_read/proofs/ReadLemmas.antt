@@ -1,15 +1,21 @@
 -- The library of bytes, case by case.
-use Rattle.std.proofs.Common.{◌≡◌, ℕ, ◌≤◌, List, [], ◌∷◌, length, Some, None, Ok, IsErr, refl, ap, inl, inr}
+use Rattle.std.proofs.Common.{◌≡◌, ℕ, codes, ◌<◌, ◌≤◌, List, [], length, Some, None, Ok, Err, sym, ap, ◌∙◌, inl, inr, lt-ltb}
 use Rattle.std.specs.Str.{IsUtf8, is_utf8}
 use Rattle.std.proofs.lemmas.Bool.{cases_Bool, le-ltb}
 use Rattle.std.proofs.lemmas.Str.{IsUtf8-from_is_utf8, is_utf8-from_IsUtf8}
 use Rattle.toml.specs.Data.{Data, Members, table}
 use Rattle.toml.specs.Parse.{parse_document}
 use Rattle.arch_model.specs.Parts.{LibraryParts}
-use Rattle.lib_read.specs.Fault.{Fault, least, first}
+use Rattle.lib_read.specs.declared.fault.LibFault.{LibFault}
+use Rattle.lib_read.specs.Fault.{least}
 use Rattle.lib_read.specs.Tree.{tree_of}
-use Rattle.lib_read.specs.Faults.{faults_of}
-use Rattle.lib_read.specs.LibraryOf.{judged, library_of}
+use Rattle.lib_read.specs.declared.fault.LibClass.TheVariants.{TooLarge, NotToml}
+use Rattle.lib_read.specs.declared.fault.TableName.TheVariants.{Library}
+use Rattle.lib_read.specs.declared.fault.LibError.{LibError}
+use Rattle.lib_read.specs.declared.fault.LibError.TheVariants as error
+use Rattle.lib_read.specs.Keys.{Tells}
+use Rattle.lib_read.specs.Faults.{fault, faults_of}
+use Rattle.lib_read.specs.LibraryOf.{judged, library_of, FaultOf}
 
 pub tree_is : (bytes : List ℕ) (ms : Members) → IsUtf8 bytes → parse_document bytes ≡ Some ms → tree_of bytes ≡ Some (table ms)
 unfolding tree_of
@@ -27,17 +33,22 @@ pub library_is : (bytes : List ℕ) (top : Data) (lib : LibraryParts) → length
 unfolding library_of
 library_is bytes top lib few tree whole = rw (le-ltb 1048576 (length bytes) few, tree) whole
 
-pub no_document : (bytes : List ℕ) → length bytes ≤ 1048576 → tree_of bytes ≡ None → IsErr (library_of bytes)
+pub no_document : (bytes : List ℕ) → length bytes ≤ 1048576 → tree_of bytes ≡ None → library_of bytes ≡ Err (fault NotToml Library 0 (codes "-"))
 unfolding library_of
 no_document bytes few tree = rw (le-ltb 1048576 (length bytes) few, tree)
 
-some_fault : (top : Data) (fs : List Fault) (f : Fault) → Some f ≡ first fs → IsErr (judged top (least fs))
-some_fault top [] f e = absurd (cc)
-some_fault top (g ∷ fs) f e = refl
-
-pub fault_found : (bytes : List ℕ) (top : Data) (f : Fault) → length bytes ≤ 1048576 → tree_of bytes ≡ Some top → Some f ≡ first (faults_of top) → IsErr (library_of bytes)
+pub too_many : (bytes : List ℕ) → 1048576 < length bytes → library_of bytes ≡ Err (fault TooLarge Library 0 (codes "-"))
 unfolding library_of
-fault_found bytes top f few tree found = rw (le-ltb 1048576 (length bytes) few, tree) (some_fault top (faults_of top) f found)
+too_many bytes h = rw (lt-ltb 1048576 (length bytes) h)
+
+pub fault_found : (bytes : List ℕ) (top : Data) (f : LibFault) → length bytes ≤ 1048576 → tree_of bytes ≡ Some top → Some f ≡ least (faults_of top) → library_of bytes ≡ Err f
+unfolding library_of
+fault_found bytes top f few tree found = rw (le-ltb 1048576 (length bytes) few, tree, ← found)
+
+-- an answer that tells the bytes' fault
+pub told_so : (bytes : List ℕ) (f : LibFault) (e : LibError) → library_of bytes ≡ Err f → Tells f e → FaultOf bytes e
+told_so bytes f error.Memory is told = tt
+told_so bytes f (error.Fault g) is told = is ∙ ap Err (sym told)
 
 pub none_found : (top : Data) → faults_of top ≡ [] → least (faults_of top) ≡ None
 none_found top e = ap least e

@@ -1,7 +1,7 @@
 -- A loop that looks for the first row with an earlier row's value.
 use Rattle.std.proofs.Common.{◌≡◌, ℕ, ◌+◌, ◌-◌, ◌<◌, Bool, true, false, cond, not, List, [], ◌∷◌, ◌++◌, map, drop, take, length, get_or, Option, Some, None, refl, sym, ap, ◌∙◌, arith}
 use Rattle.std.specs.Option.{option_map_or}
-use Rattle.std.specs.List.{list_any, filter_map, flat_map, enumerate_from}
+use Rattle.std.specs.List.{AllByRecursion, list_any, filter_map, flat_map, enumerate_from}
 use Rattle.std.proofs.lemmas.List.{take_more, take-map, map-append}
 use Rattle.std.proofs.lemmas.List.Elements.{filter_map-append}
 use Rattle.toml.specs.Data.{Data}
@@ -9,9 +9,10 @@ use Rattle.toml.specs.View.{view}
 use Rattle.toml.specs.declared.value.Value.{Value}
 use Rattle.lib_read.specs.declared.fault.LibClass.TheVariants.{Duplicate}
 use Rattle.lib_read.specs.declared.fault.TableName.{TableName}
-use Rattle.lib_read.specs.Fault.{Fault, first}
+use Rattle.lib_read.specs.declared.fault.LibFault.{LibFault}
+use Rattle.lib_read.specs.Fault.{least}
 use Rattle.lib_read.specs.Faults.{fault, is_repeat}
-use Rattle.lib_read.proofs.FirstLemmas.{turn_past, turn_here}
+use Rattle.lib_read.proofs.LeastLemmas.{InRow, turn_past, turn_here}
 
 -- the values of some rows, and of one more
 pub values_more : {X : Type 0} (value : Data → Option X) (vs : List Value) (i : ℕ) (d : Value) → i < length vs
@@ -45,8 +46,15 @@ values_old {X = X} value vs i d seen after here is so_far step =
 
 module _ {X : Type 0} (same : X → X → Bool) (value : Data → Option X) (t : TableName) (key : List ℕ) (rs : List Data) where
   -- what a row adds to the faults
-  abbrev pub repeats_at : ℕ × Data → List Fault
+  abbrev pub repeats_at : ℕ × Data → List LibFault
   repeats_at p = cond (is_repeat same value (take (p.0 - 1) rs) p.1) (fault Duplicate t p.0 key ∷ []) []
+
+  own : (p : ℕ × Data) → AllByRecursion (InRow Duplicate t p.0) (repeats_at p)
+  own p = at_most_one (is_repeat same value (take (p.0 - 1) rs) p.1)
+    where
+      at_most_one : (b : Bool) → AllByRecursion (InRow Duplicate t p.0) (cond b (fault Duplicate t p.0 key ∷ []) [])
+      at_most_one true = (record { class = refl; table = refl; position = refl }, tt)
+      at_most_one false = tt
 
   earlier : (vs : List Value) (i : ℕ) → map view vs ≡ rs → take (i + 1 - 1) rs ≡ map view (take i vs)
   earlier vs i e = let n : i + 1 - 1 ≡ i = omega arith in ap (λ k. take k rs) n ∙ ap (take i) (sym e) ∙ take-map view i vs
@@ -57,32 +65,32 @@ module _ {X : Type 0} (same : X → X → Bool) (value : Data → Option X) (t :
       ap (λ l. cond (option_map_or (λ x. list_any (same x) l) (value (view (get_or vs i d))) false) (fault Duplicate t (i + 1) key ∷ []) [])
       (ap (filter_map value) (earlier vs i e) ∙ sym so_far)
 
-  hit : (o : Option X) (seen : List X) (x : X) (f : Fault) → Some x ≡ o → list_any (same x) seen ≡ true
-      → Some f ≡ first (cond (option_map_or (λ y. list_any (same y) seen) o false) (f ∷ []) [])
+  hit : (o : Option X) (seen : List X) (x : X) (f : LibFault) → Some x ≡ o → list_any (same x) seen ≡ true
+      → Some f ≡ least (cond (option_map_or (λ y. list_any (same y) seen) o false) (f ∷ []) [])
   hit o seen x f is found = rw (← is, found)
 
-  miss : (o : Option X) (seen : List X) (x : X) (f : Fault) → Some x ≡ o → list_any (same x) seen ≡ false
-      → None ≡ first (cond (option_map_or (λ y. list_any (same y) seen) o false) (f ∷ []) [])
+  miss : (o : Option X) (seen : List X) (x : X) (f : LibFault) → Some x ≡ o → list_any (same x) seen ≡ false
+      → None ≡ least (cond (option_map_or (λ y. list_any (same y) seen) o false) (f ∷ []) [])
   miss o seen x f is absent = rw (← is, absent)
 
-  blank : (o : Option X) (seen : List X) (f : Fault) → None ≡ o
-      → None ≡ first (cond (option_map_or (λ y. list_any (same y) seen) o false) (f ∷ []) [])
+  blank : (o : Option X) (seen : List X) (f : LibFault) → None ≡ o
+      → None ≡ least (cond (option_map_or (λ y. list_any (same y) seen) o false) (f ∷ []) [])
   blank o seen f is = rw (← is)
 
-  module _ (vs : List Value) (i : ℕ) (d : Value) (seen : List X) (all : Option Fault) (whole : map view vs ≡ rs) (here : i < length vs)
-      (so_far : seen ≡ filter_map value (map view (take i vs))) (before : first (flat_map repeats_at (enumerate_from (i + 1) (map view (drop i vs)))) ≡ all) where
+  module _ (vs : List Value) (i : ℕ) (d : Value) (seen : List X) (all : Option LibFault) (whole : map view vs ≡ rs) (here : i < length vs)
+      (so_far : seen ≡ filter_map value (map view (take i vs))) (before : least (flat_map repeats_at (enumerate_from (i + 1) (map view (drop i vs)))) ≡ all) where
     pub repeats_here : (x : X) → Some x ≡ value (view (get_or vs i d)) → list_any (same x) seen ≡ true → Some (fault Duplicate t (i + 1) key) ≡ all
     repeats_here x is found =
-        turn_here view repeats_at vs (i + 1) i d all (fault Duplicate t (i + 1) key) here (hit (value (view (get_or vs i d))) seen x (fault Duplicate t (i + 1) key) is found ∙ sym (ap first (at_turn vs i d seen whole so_far))) before
+        turn_here Duplicate t repeats_at own view vs (i + 1) i d all (fault Duplicate t (i + 1) key) here (hit (value (view (get_or vs i d))) seen x (fault Duplicate t (i + 1) key) is found ∙ sym (ap least (at_turn vs i d seen whole so_far))) before
 
     pub repeats_new : (x : X) → Some x ≡ value (view (get_or vs i d)) → list_any (same x) seen ≡ false
-        → first (flat_map repeats_at (enumerate_from (i + 1 + 1) (map view (drop (i + 1) vs)))) ≡ all
+        → least (flat_map repeats_at (enumerate_from (i + 1 + 1) (map view (drop (i + 1) vs)))) ≡ all
     repeats_new x is absent =
-        turn_past view repeats_at vs (i + 1) i d all here (miss (value (view (get_or vs i d))) seen x (fault Duplicate t (i + 1) key) is absent ∙ sym (ap first (at_turn vs i d seen whole so_far))) before
+        turn_past Duplicate t repeats_at own view vs (i + 1) i d all here (miss (value (view (get_or vs i d))) seen x (fault Duplicate t (i + 1) key) is absent ∙ sym (ap least (at_turn vs i d seen whole so_far))) before
 
-    pub repeats_none : None ≡ value (view (get_or vs i d)) → first (flat_map repeats_at (enumerate_from (i + 1 + 1) (map view (drop (i + 1) vs)))) ≡ all
+    pub repeats_none : None ≡ value (view (get_or vs i d)) → least (flat_map repeats_at (enumerate_from (i + 1 + 1) (map view (drop (i + 1) vs)))) ≡ all
     repeats_none is =
-        turn_past view repeats_at vs (i + 1) i d all here (blank (value (view (get_or vs i d))) seen (fault Duplicate t (i + 1) key) is ∙ sym (ap first (at_turn vs i d seen whole so_far))) before
+        turn_past Duplicate t repeats_at own view vs (i + 1) i d all here (blank (value (view (get_or vs i d))) seen (fault Duplicate t (i + 1) key) is ∙ sym (ap least (at_turn vs i d seen whole so_far))) before
 
 -- what `add` says of an entry that it finds, and of one that is new
 pub was_there : (a b : Bool) → b ≡ not a → b ≡ false → a ≡ true

@@ -9,13 +9,7 @@ use Rattle.lib_read.specs.declared.fault.LibClass.{LibClass}
 use Rattle.lib_read.specs.declared.fault.LibClass.TheVariants.{TooLarge, NotToml, UnknownKey, MissingKey, WrongKind, BadName, Duplicate, UnknownName, Range, TooMany}
 use Rattle.lib_read.specs.declared.fault.TableName.{TableName}
 use Rattle.lib_read.specs.declared.fault.TableName.TheVariants.{Library, Types, Links, Patterns, Requires}
-
--- a fault: its class, the table that it is in, its row's place there counted from 1 (0 for the library), and a key
-pub record Fault : Type 0 where
-  pub class : LibClass
-  pub table : TableName
-  pub position : ℕ
-  pub key : List ℕ
+use Rattle.lib_read.specs.declared.fault.LibFault.{LibFault}
 
 -- the order of the classes, and of the tables
 abbrev pub class_rank : LibClass → ℕ
@@ -41,15 +35,19 @@ table_rank Requires = 4
 abbrev pub then_by : Ordering → Ordering → Ordering
 then_by first second = match_ordering first Less second Greater
 
+-- texts in byte order
+abbrev pub text_cmp : List ℕ → List ℕ → Ordering
+text_cmp = slice_cmp nat_cmp
+
 -- faults by class, then by table, then by position, then by key in byte order
-abbrev pub fault_cmp : Fault → Fault → Ordering
+abbrev pub fault_cmp : LibFault → LibFault → Ordering
 fault_cmp a b =
     then_by (nat_cmp (class_rank a.class) (class_rank b.class))
     (then_by (nat_cmp (table_rank a.table) (table_rank b.table))
-    (then_by (nat_cmp a.position b.position) (slice_cmp nat_cmp a.key b.key)))
+    (then_by (nat_cmp a.position b.position) (text_cmp a.key b.key)))
 
 -- the least of some faults
-abbrev pub least : List Fault → Option Fault
+abbrev pub least : List LibFault → Option LibFault
 least [] = None
 least (f ∷ fs) = Some (best_of (λ a b. is_lt (fault_cmp a b)) f fs)
 

@@ -10,44 +10,48 @@ use Rattle.lib_read.specs.declared.fault.LibClass.{LibClass}
 use Rattle.lib_read.specs.declared.fault.LibClass.TheVariants.{UnknownKey, MissingKey, WrongKind, BadName, Duplicate, UnknownName, Range, TooMany}
 use Rattle.lib_read.specs.declared.fault.TableName.{TableName}
 use Rattle.lib_read.specs.declared.fault.TableName.TheVariants.{Library, Types, Links, Patterns}
-use Rattle.lib_read.specs.Fault.{Fault}
+use Rattle.lib_read.specs.declared.fault.LibFault.{LibFault}
 use Rattle.lib_read.specs.Tree.{text_at, keys_in, rows_of}
 use Rattle.lib_read.specs.Schema.{KeyRow, table_keys, is_faulty}
 use Rattle.lib_read.specs.Rows.{type_names, types_of, links_of}
 
-abbrev pub fault : LibClass → TableName → ℕ → List ℕ → Fault
+abbrev pub fault : LibClass → TableName → ℕ → List ℕ → LibFault
 fault class t position key = record { class = class; table = t; position = position; key = key }
 
 -- whether a key is one of a table's
 abbrev pub is_known : List KeyRow → List ℕ → Bool
 is_known keys name = list_any (λ key. bytes_eq key.name name) keys
 
--- the keys at which a row has a fault of a class; `-` where it isn't a table, which is a wrong kind
-abbrev pub faulty_keys : List (List ℕ) → LibClass → List KeyRow → Data → List (List ℕ)
-faulty_keys names UnknownKey keys row = filter (λ name. not (is_known keys name)) (keys_in row)
-faulty_keys names class keys (table ms) = map (λ key. key.name) (filter (is_faulty names class (table ms)) keys)
-faulty_keys names WrongKind keys row = codes "-" ∷ []
-faulty_keys names class keys row = []
+-- the keys of a row that aren't a table's
+abbrev pub unknown_keys : List KeyRow → Data → List (List ℕ)
+unknown_keys keys row = filter (λ name. not (is_known keys name)) (keys_in row)
+
+-- the keys at which a document's row has a fault of a class; `-` where it isn't a table, which is a wrong kind
+abbrev pub faulty_keys : Data → List (List ℕ) → LibClass → List KeyRow → Data → List (List ℕ)
+faulty_keys top names UnknownKey keys row = unknown_keys keys row
+faulty_keys top names class keys (table ms) = map (λ key. key.name) (filter (is_faulty top names class (table ms)) keys)
+faulty_keys top names WrongKind keys row = codes "-" ∷ []
+faulty_keys top names class keys row = []
 
 -- the faults of a class in the row of a table at a position
-abbrev pub row_faults : List (List ℕ) → LibClass → TableName → ℕ → Data → List Fault
-row_faults names class t position row = map (fault class t position) (faulty_keys names class (table_keys t row) row)
+abbrev pub row_faults : Data → List (List ℕ) → LibClass → TableName → ℕ → Data → List LibFault
+row_faults top names class t position row = map (fault class t position) (faulty_keys top names class (table_keys t row) row)
 
 -- the faults of a class in a table's rows
-abbrev pub table_faults : List (List ℕ) → LibClass → TableName → Data → List Fault
-table_faults names class t top = flat_map (λ p. row_faults names class t p.0 p.1) (enumerate_from 1 (rows_of t top))
+abbrev pub table_faults : List (List ℕ) → LibClass → TableName → Data → List LibFault
+table_faults names class t top = flat_map (λ p. row_faults top names class t p.0 p.1) (enumerate_from 1 (rows_of t top))
 
 -- the faults of a class that a row has by itself, in the document and in each table
-abbrev pub class_faults : List (List ℕ) → LibClass → Data → List Fault
+abbrev pub class_faults : List (List ℕ) → LibClass → Data → List LibFault
 class_faults names class top =
-    row_faults names class Library 0 top ++ (table_faults names class Types top ++ (table_faults names class Links top ++ table_faults names class Patterns top))
+    row_faults top names class Library 0 top ++ (table_faults names class Types top ++ (table_faults names class Links top ++ table_faults names class Patterns top))
 
 -- whether an earlier row has the value of this one
 abbrev pub is_repeat : {X : Type 0} → (X → X → Bool) → (Data → Option X) → List Data → Data → Bool
 is_repeat same value earlier row = option_map_or (λ x. list_any (same x) (filter_map value earlier)) (value row) false
 
 -- a table's rows that repeat the value of an earlier row
-abbrev pub repeat_faults : {X : Type 0} → (X → X → Bool) → (Data → Option X) → TableName → List ℕ → Data → List Fault
+abbrev pub repeat_faults : {X : Type 0} → (X → X → Bool) → (Data → Option X) → TableName → List ℕ → Data → List LibFault
 repeat_faults same value t key top =
     flat_map (λ p. if is_repeat same value (take (p.0 - 1) (rows_of t top)) p.1 then fault Duplicate t p.0 key ∷ [] else [])
     (enumerate_from 1 (rows_of t top))
@@ -60,14 +64,14 @@ abbrev pub same_ends : List ℕ × List ℕ → List ℕ × List ℕ → Bool
 same_ends a b = bytes_eq a.0 b.0 && bytes_eq a.1 b.1
 
 -- a type with an earlier type's name; a link with the pair of an earlier link
-abbrev pub repeated_names : Data → List Fault
+abbrev pub repeated_names : Data → List LibFault
 repeated_names top = repeat_faults bytes_eq (text_at (codes "name")) Types (codes "name") top
 
-abbrev pub repeated_links : Data → List Fault
+abbrev pub repeated_links : Data → List LibFault
 repeated_links top = repeat_faults same_ends link_ends Links (codes "to") top
 
 -- the first limit that is passed: of components, edges and patterns
-abbrev pub limit_faults : Data → List Fault
+abbrev pub limit_faults : Data → List LibFault
 limit_faults top =
     let components = components_of (types_of top) in
     if nat_lt COMPONENTS (length components) then fault TooMany Library 0 (codes "type") ∷ []
@@ -76,14 +80,14 @@ limit_faults top =
     else []
 
 -- the faults of the classes that are judged row by row, whatever the types are called
-abbrev pub plain_faults : Data → List Fault
+abbrev pub plain_faults : Data → List LibFault
 plain_faults top =
     class_faults [] UnknownKey top
     ++ (class_faults [] MissingKey top
     ++ (class_faults [] WrongKind top ++ class_faults [] BadName top))
 
 -- the faults of all classes but the last
-abbrev pub judged_faults : Data → List Fault
+abbrev pub judged_faults : Data → List LibFault
 judged_faults top =
     plain_faults top
     ++ (repeated_names top
@@ -91,5 +95,5 @@ judged_faults top =
     ++ (class_faults (type_names top) UnknownName top ++ class_faults (type_names top) Range top)))
 
 -- all faults of a document
-abbrev pub faults_of : Data → List Fault
+abbrev pub faults_of : Data → List LibFault
 faults_of top = judged_faults top ++ limit_faults top

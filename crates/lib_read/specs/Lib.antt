@@ -1,5 +1,6 @@
 pub mod Fault
 pub mod Tree
+pub mod Components
 pub mod Schema
 pub mod Keys
 pub mod Faults

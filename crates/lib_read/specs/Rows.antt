@@ -1,10 +1,11 @@
 -- The library that a document without a fault is.
-use Rattle.std.specs.Prelude.{codes, ℕ, ℤ, pos, negsuc, List, [], map, Option, option_map, unwrap_or, position, IfSome}
+use Rattle.std.specs.Prelude.{codes, ℕ, List, [], map, Option, option_map, unwrap_or, position, IfSome}
 use Rattle.std.specs.Option.{option_and_then}
 use Rattle.std.specs.List.{filter_map}
 use Rattle.std.specs.Str.{bytes_eq}
 use Rattle.toml.specs.Data.{Data}
 use Rattle.arch_model.specs.declared.template.Role.TheVariants.{Middle}
+use Rattle.arch_model.specs.declared.sets.CompId.{CompId}
 use Rattle.arch_model.specs.declared.library.TypeRow.{TypeRow}
 use Rattle.arch_model.specs.declared.library.LinkRow.{LinkRow}
 use Rattle.arch_model.specs.declared.library.Pattern.{Pattern}
@@ -14,21 +15,10 @@ use Rattle.arch_model.specs.Library.{library_parts, AreBounds}
 use Rattle.arch_model.specs.Template.{template_of}
 use Rattle.lib_read.specs.declared.fault.TableName.TheVariants.{Types, Links, Patterns}
 use Rattle.lib_read.specs.declared.schema.Kind.{Kind}
-use Rattle.lib_read.specs.declared.schema.Kind.TheVariants.{Count}
-use Rattle.lib_read.specs.Tree.{text_at, integer_at, rows_of}
+use Rattle.lib_read.specs.declared.schema.Kind.TheVariants.{Count, InDegree, OutDegree, InNeedsOut, Exclusive, Implies, Forbid, TotalSupply, LocalSupply, CostCap}
+use Rattle.lib_read.specs.Tree.{text_at, rows_of}
+use Rattle.lib_read.specs.Components.{number_at, number_or, component_names}
 use Rattle.lib_read.specs.Schema.{role_of, row_kind}
-
--- an integer from 0 on, as a number
-abbrev pub number : ℤ → ℕ
-number (pos n) = n
-number (negsuc n) = 0
-
--- the number at a key, and the one that stands for an absent one
-abbrev pub number_at : List ℕ → Data → Option ℕ
-number_at key row = option_map number (integer_at key row)
-
-abbrev pub number_or : ℕ → List ℕ → Data → ℕ
-number_or absent key row = unwrap_or (number_at key row) absent
 
 -- the names of the types, in file order
 abbrev pub type_names : Data → List (List ℕ)
@@ -57,15 +47,39 @@ link_row names row = record {
   fail = 0;
 }
 
-abbrev pub kind_row : List (List ℕ) → Data → Kind → Pattern
-kind_row names row Count = pattern.Count (type_at names (codes "type") row) (number_or 0 (codes "min") row) (number_at (codes "max") row)
+-- the least number of a pattern's row, and the greatest
+abbrev pub least_of : Data → ℕ
+least_of row = number_or 0 (codes "min") row
 
-abbrev pub pattern_row : List (List ℕ) → Data → Option Pattern
-pattern_row names row = option_map (kind_row names row) (row_kind row)
+abbrev pub most_of : Data → Option ℕ
+most_of row = number_at (codes "max") row
 
--- the numbers of a pattern's row are in their ranges
+-- the component that the text at a key names
+abbrev pub component_at : List (List ℕ) → List ℕ → Data → CompId
+component_at components key row = record { 0 = type_at components key row }
+
+-- the pattern of a kind that a row is, where types and components have these names
+abbrev pub kind_row : List (List ℕ) → List (List ℕ) → Data → Kind → Pattern
+kind_row names components row Count = pattern.Count (type_at names (codes "type") row) (least_of row) (most_of row)
+kind_row names components row InDegree = pattern.InDegree (type_at names (codes "type") row) (type_at names (codes "from") row) (least_of row) (most_of row)
+kind_row names components row OutDegree = pattern.OutDegree (type_at names (codes "type") row) (type_at names (codes "to") row) (least_of row) (most_of row)
+kind_row names components row InNeedsOut = pattern.InNeedsOut (type_at names (codes "type") row) (type_at names (codes "from") row) (type_at names (codes "to") row)
+kind_row names components row Exclusive = pattern.Exclusive (type_at names (codes "type") row) (type_at names (codes "a") row) (type_at names (codes "b") row)
+kind_row names components row Implies = pattern.Implies (type_at names (codes "a") row) (type_at names (codes "b") row)
+kind_row names components row Forbid = pattern.Forbid (component_at components (codes "from") row) (component_at components (codes "to") row)
+kind_row names components row TotalSupply = pattern.TotalSupply
+kind_row names components row LocalSupply = pattern.LocalSupply (type_at names (codes "type") row)
+kind_row names components row CostCap = pattern.CostCap (number_or 0 (codes "max") row)
+
+abbrev pub pattern_row : List (List ℕ) → List (List ℕ) → Data → Option Pattern
+pattern_row names components row = option_map (kind_row names components row) (row_kind row)
+
+-- the least and greatest number of a pattern's row, where its kind has them, are in their ranges
 abbrev pub KindFits : Data → Kind → Type 0
-KindFits row Count = AreBounds (number_or 0 (codes "min") row) (number_at (codes "max") row)
+KindFits row Count = AreBounds (least_of row) (most_of row)
+KindFits row InDegree = AreBounds (least_of row) (most_of row)
+KindFits row OutDegree = AreBounds (least_of row) (most_of row)
+KindFits row _ = Unit {0}
 
 abbrev pub PatternFits : Data → Type 0
 PatternFits row = IfSome (row_kind row) (KindFits row)
@@ -77,14 +91,14 @@ types_of top = map type_row (rows_of Types top)
 abbrev pub links_by : List (List ℕ) → Data → List LinkRow
 links_by names top = map (link_row names) (rows_of Links top)
 
-abbrev pub patterns_by : List (List ℕ) → Data → List Pattern
-patterns_by names top = filter_map (pattern_row names) (rows_of Patterns top)
+abbrev pub patterns_by : List (List ℕ) → List (List ℕ) → Data → List Pattern
+patterns_by names components top = filter_map (pattern_row names components) (rows_of Patterns top)
 
 abbrev pub links_of : Data → List LinkRow
 links_of top = links_by (type_names top) top
 
 abbrev pub patterns_of : Data → List Pattern
-patterns_of top = patterns_by (type_names top) top
+patterns_of top = patterns_by (type_names top) (component_names top) top
 
 -- the library of a document, with the template of its types and links
 abbrev pub library_of_tree : Data → LibraryParts

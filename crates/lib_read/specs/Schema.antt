@@ -12,10 +12,11 @@ use Rattle.lib_read.specs.declared.fault.LibClass.TheVariants.{MissingKey, Wrong
 use Rattle.lib_read.specs.declared.fault.TableName.{TableName}
 use Rattle.lib_read.specs.declared.fault.TableName.TheVariants.{Library, Types, Links, Patterns, Requires}
 use Rattle.lib_read.specs.declared.schema.Meaning.{Meaning}
-use Rattle.lib_read.specs.declared.schema.Meaning.TheVariants.{Rows, NewName, RoleWord, KindWord, TypeName, Number, Text, Integer}
+use Rattle.lib_read.specs.declared.schema.Meaning.TheVariants.{Rows, NewName, RoleWord, KindWord, TypeName, OtherName, ComponentName, Number, Text, Integer}
 use Rattle.lib_read.specs.declared.schema.Kind.{Kind}
-use Rattle.lib_read.specs.declared.schema.Kind.TheVariants.{Count}
+use Rattle.lib_read.specs.declared.schema.Kind.TheVariants.{Count, InDegree, OutDegree, InNeedsOut, Exclusive, Implies, Forbid, TotalSupply, LocalSupply, CostCap}
 use Rattle.lib_read.specs.Tree.{text_at, integer_at}
+use Rattle.lib_read.specs.Components.{component_names}
 
 -- a key of a table: whether it is required, and what its value means
 pub record KeyRow : Type 0 where
@@ -53,11 +54,46 @@ kind_keys Count =
     ∷ (takes (codes "max") (Number 0 512)
     ∷ (takes (codes "min") (Number 0 512)
     ∷ (needs (codes "type") TypeName ∷ [])))
+kind_keys InDegree =
+    needs (codes "from") TypeName
+    ∷ (needs (codes "kind") KindWord
+    ∷ (takes (codes "max") (Number 0 512)
+    ∷ (takes (codes "min") (Number 0 512)
+    ∷ (needs (codes "type") TypeName ∷ []))))
+kind_keys OutDegree =
+    needs (codes "kind") KindWord
+    ∷ (takes (codes "max") (Number 0 512)
+    ∷ (takes (codes "min") (Number 0 512)
+    ∷ (needs (codes "to") TypeName
+    ∷ (needs (codes "type") TypeName ∷ []))))
+kind_keys InNeedsOut =
+    needs (codes "from") TypeName
+    ∷ (needs (codes "kind") KindWord
+    ∷ (needs (codes "to") TypeName
+    ∷ (needs (codes "type") TypeName ∷ [])))
+kind_keys Exclusive =
+    needs (codes "a") TypeName
+    ∷ (needs (codes "b") OtherName
+    ∷ (needs (codes "kind") KindWord
+    ∷ (needs (codes "type") TypeName ∷ [])))
+kind_keys Implies = needs (codes "a") TypeName ∷ (needs (codes "b") TypeName ∷ (needs (codes "kind") KindWord ∷ []))
+kind_keys Forbid =
+    needs (codes "from") ComponentName ∷ (needs (codes "kind") KindWord ∷ (needs (codes "to") ComponentName ∷ []))
+kind_keys TotalSupply = needs (codes "kind") KindWord ∷ []
+kind_keys LocalSupply = needs (codes "kind") KindWord ∷ (needs (codes "type") TypeName ∷ [])
+kind_keys CostCap = needs (codes "kind") KindWord ∷ (needs (codes "max") (Number 0 1000000000000000) ∷ [])
 
 -- the keys of a pattern whose kind isn't one of the texts: those of any kind, of which only `kind` is required
 abbrev pub any_keys : List KeyRow
 any_keys =
-    needs (codes "kind") KindWord ∷ (takes (codes "max") Integer ∷ (takes (codes "min") Integer ∷ (takes (codes "type") Text ∷ [])))
+    takes (codes "a") Text
+    ∷ (takes (codes "b") Text
+    ∷ (takes (codes "from") Text
+    ∷ (needs (codes "kind") KindWord
+    ∷ (takes (codes "max") Integer
+    ∷ (takes (codes "min") Integer
+    ∷ (takes (codes "to") Text
+    ∷ (takes (codes "type") Text ∷ [])))))))
 
 -- the role that a text is, and the kind of pattern
 abbrev pub role_of : List ℕ → Option Role
@@ -68,7 +104,18 @@ role_of text =
     else None
 
 abbrev pub kind_of : List ℕ → Option Kind
-kind_of text = if bytes_eq text (codes "count") then Some Count else None
+kind_of text =
+    if bytes_eq text (codes "count") then Some Count
+    else if bytes_eq text (codes "indegree") then Some InDegree
+    else if bytes_eq text (codes "outdegree") then Some OutDegree
+    else if bytes_eq text (codes "in_needs_out") then Some InNeedsOut
+    else if bytes_eq text (codes "exclusive") then Some Exclusive
+    else if bytes_eq text (codes "implies") then Some Implies
+    else if bytes_eq text (codes "forbid") then Some Forbid
+    else if bytes_eq text (codes "total_supply") then Some TotalSupply
+    else if bytes_eq text (codes "local_supply") then Some LocalSupply
+    else if bytes_eq text (codes "cost_cap") then Some CostCap
+    else None
 
 -- the kind of a pattern's row
 abbrev pub row_kind : Data → Option Kind
@@ -105,30 +152,36 @@ text_fails test key row = option_map_or (λ text. not (test text)) (text_at key 
 abbrev pub integer_fails : (ℤ → Bool) → List ℕ → Data → Bool
 integer_fails test key row = option_map_or (λ z. not (test z)) (integer_at key row) false
 
--- whether a name is one of the types' names
+-- whether a name is one of some names
 abbrev pub is_named : List (List ℕ) → List ℕ → Bool
 is_named names text = list_any (bytes_eq text) names
 
--- a value out of its range: a number, a role or a kind
+-- a value out of its range: a number, a role or a kind, or the name that the key `a` has
 abbrev pub is_out_of_range : Meaning → List ℕ → Data → Bool
 is_out_of_range RoleWord key row = text_fails (λ text. is_some (role_of text)) key row
 is_out_of_range KindWord key row = text_fails (λ text. is_some (kind_of text)) key row
+is_out_of_range OtherName key row = option_map_or (λ first. option_map_or (bytes_eq first) (text_at key row) false) (text_at (codes "a") row) false
 is_out_of_range (Number low high) key row = integer_fails (is_between low high) key row
 is_out_of_range _ key row = false
+
+abbrev pub is_wrong_kind : Meaning → List ℕ → Data → Bool
+is_wrong_kind meaning key row = option_map_or (λ value. not (fits_meaning meaning value)) (get key row) false
 
 abbrev pub is_bad_name : Meaning → List ℕ → Data → Bool
 is_bad_name NewName key row = text_fails is_type_name key row
 is_bad_name _ key row = false
 
-abbrev pub is_unknown_name : List (List ℕ) → Meaning → List ℕ → Data → Bool
-is_unknown_name names TypeName key row = text_fails (is_named names) key row
-is_unknown_name names _ key row = false
+abbrev pub is_unknown_name : Data → List (List ℕ) → Meaning → List ℕ → Data → Bool
+is_unknown_name top names TypeName key row = text_fails (is_named names) key row
+is_unknown_name top names OtherName key row = text_fails (is_named names) key row
+is_unknown_name top names ComponentName key row = text_fails (is_named (component_names top)) key row
+is_unknown_name top names _ key row = false
 
--- whether a key of a row has a fault of a class, where the types have these names
-abbrev pub is_faulty : List (List ℕ) → LibClass → Data → KeyRow → Bool
-is_faulty names MissingKey row key = key.required && is_none (get key.name row)
-is_faulty names WrongKind row key = option_map_or (λ value. not (fits_meaning key.meaning value)) (get key.name row) false
-is_faulty names BadName row key = is_bad_name key.meaning key.name row
-is_faulty names UnknownName row key = is_unknown_name names key.meaning key.name row
-is_faulty names Range row key = is_out_of_range key.meaning key.name row
-is_faulty names _ row key = false
+-- whether a key of a row of a document has a fault of a class, where the types have these names
+abbrev pub is_faulty : Data → List (List ℕ) → LibClass → Data → KeyRow → Bool
+is_faulty top names MissingKey row key = key.required && is_none (get key.name row)
+is_faulty top names WrongKind row key = is_wrong_kind key.meaning key.name row
+is_faulty top names BadName row key = is_bad_name key.meaning key.name row
+is_faulty top names UnknownName row key = is_unknown_name top names key.meaning key.name row
+is_faulty top names Range row key = is_out_of_range key.meaning key.name row
+is_faulty top names _ row key = false

@@ -1,11 +1,14 @@
 // Whether one key of a row has a fault.
-ghost use Rattle.std.specs.Prelude.{◌≡◌, is_some, []};
+ghost use Rattle.std.specs.Prelude.{◌≡◌, false, is_some, []};
 ghost use Rattle.toml.specs.View.{view};
 ghost use Rattle.lib_read.specs.Schema as spec;
 ghost use Rattle.lib_read.specs.Keys.{key_view};
 ghost use Rattle.std.specs.List.{list_all};
+ghost use Rattle.std.specs.Option.{option_copied, option_map_or};
+ghost use Rattle.std.specs.Str.{bytes_eq};
 ghost use Rattle.arch_model.specs.Name as name;
 
+use crate::components::is_component;
 use crate::fault::LibClass;
 use crate::names::Names;
 use crate::schema::{Key, Meaning, kind_of, role_of};
@@ -64,12 +67,13 @@ fn is_bad_name(key: &Key, row: &Value) -> bool
     }
 }
 
-// Whether the key's value is a text that should name a type, and names none.
-fn is_unknown_name(key: &Key, row: &Value, names: &Names) -> bool
-    ensures { result ≡ spec.is_unknown_name names.now key.now.meaning key.now.name.now (view row.now) }
+// Whether the key's value is a text that should name a type or a component, and names none.
+fn is_unknown_name(key: &Key, row: &Value, names: &Names, top: &Value) -> bool
+    ensures { result ≡ spec.is_unknown_name (view top.now) names.now key.now.meaning key.now.name.now (view row.now) }
 {
     match (key.meaning, text_at(row, key.name)) {
-        (Meaning::TypeName, Some(text)) => !names.has(text),
+        (Meaning::TypeName | Meaning::OtherName, Some(text)) => !names.has(text),
+        (Meaning::ComponentName, Some(text)) => !is_component(top, text),
         _ => false,
     }
 }
@@ -84,8 +88,19 @@ fn is_between(low: u64, high: u64, z: i64) -> bool
     }
 }
 
-// Whether the key's value is a text that should be one of some words, or a number, and is out of
-// its range.
+// Whether two texts are there and equal.
+fn are_equal(a: Option<&str>, b: Option<&str>) -> bool
+    ensures { result ≡ option_map_or (λ x. option_map_or (bytes_eq x) (option_copied b.entry) false)
+        (option_copied a.entry) false }
+{
+    match (a, b) {
+        (Some(a), Some(b)) => a == b,
+        _ => false,
+    }
+}
+
+// Whether the key's value is a text that should be one of some words or another type's name, or a
+// number, and is out of its range.
 fn is_out_of_range(key: &Key, row: &Value) -> bool
     ensures { result ≡ spec.is_out_of_range key.now.meaning key.now.name.now (view row.now) }
 {
@@ -98,6 +113,7 @@ fn is_out_of_range(key: &Key, row: &Value) -> bool
             Some(text) => kind_of(text).is_none(),
             None => false,
         },
+        Meaning::OtherName => are_equal(text_at(row, "a"), text_at(row, key.name)),
         Meaning::Number { low, high } => match integer_at(row, key.name) {
             Some(z) => !is_between(low, high, z),
             None => false,
@@ -108,7 +124,7 @@ fn is_out_of_range(key: &Key, row: &Value) -> bool
 
 // Whether the key's value is there and of another kind than the key wants.
 fn is_wrong_kind(key: &Key, row: &Value) -> bool
-    ensures { result ≡ spec.is_faulty [] LibClass.WrongKind (view row.now) (key_view key.now) }
+    ensures { result ≡ spec.is_wrong_kind key.now.meaning key.now.name.now (view row.now) }
 {
     match row.get(key.name) {
         Some(value) => !fits_meaning(key.meaning, value),
@@ -117,14 +133,14 @@ fn is_wrong_kind(key: &Key, row: &Value) -> bool
 }
 
 // Whether a key of a row has a fault of a class.
-pub(crate) fn is_faulty(class: LibClass, key: &Key, row: &Value, names: &Names) -> bool
-    ensures { result ≡ spec.is_faulty names.now class (view row.now) (key_view key.now) }
+pub(crate) fn is_faulty(class: LibClass, key: &Key, row: &Value, names: &Names, top: &Value) -> bool
+    ensures { result ≡ spec.is_faulty (view top.now) names.now class (view row.now) (key_view key.now) }
 {
     match class {
         LibClass::MissingKey => key.required && row.get(key.name).is_none(),
         LibClass::WrongKind => is_wrong_kind(key, row),
         LibClass::BadName => is_bad_name(key, row),
-        LibClass::UnknownName => is_unknown_name(key, row, names),
+        LibClass::UnknownName => is_unknown_name(key, row, names, top),
         LibClass::Range => is_out_of_range(key, row),
         _ => false,
     }

@@ -1,7 +1,9 @@
 // What is wrong with a library file, and where.
 ghost use Rattle.std.specs.Prelude.{◌≡◌};
 
-use arch_model::Memory;
+use arch_model::{KeyText, Memory};
+use std::fmt;
+use std::fmt::{Debug, Formatter, Write};
 use thiserror::Error;
 
 /// The classes of faults, in the order in which they are judged over the whole file.
@@ -21,9 +23,10 @@ pub enum LibClass {
     BadName,
     /// A type's name, or a link's pair of types, stands in an earlier row.
     Duplicate,
-    /// A type is named that doesn't exist.
+    /// A type or a component is named that doesn't exist.
     UnknownName,
-    /// A number is out of its range, or a role or kind isn't one of the words.
+    /// A number is out of its range, a role or kind isn't one of the words, or `exclusive` names one
+    /// type as both `a` and `b`.
     Range,
     /// There are too many components, edges or patterns.
     TooMany,
@@ -54,15 +57,37 @@ pub(crate) struct Fault<'a> {
     pub(crate) key: &'a str,
 }
 
+/// What is wrong with a library file, and where: the first fault in the order of the classes, then
+/// of the tables, the positions and the keys.
+#[derive(Drop)]
+pub struct LibFault {
+    /// What is wrong.
+    pub class: LibClass,
+    /// The table that it is in.
+    pub table: TableName,
+    /// The row's place in its table, counted from 1. It is 0 where the fault is the file's.
+    pub position: u32,
+    /// The key, as it is written, or `-` where it is at none.
+    pub key: KeyText,
+}
+
+impl Debug for LibFault {
+    fn fmt<W: Write>(&self, f: &mut Formatter<W>) -> fmt::Result {
+        let (class, table) = (self.class, self.table);
+        let (position, key) = (self.position, self.key.bytes());
+        write!(f, "{class:?} {table:?} {position} {key:?}")
+    }
+}
+
 /// Why there is no library.
-#[derive(Debug, PartialEq, Eq, Drop, Error)]
+#[derive(Debug, Drop, Error)]
 pub enum LibError {
     /// Want of memory, which says nothing of the file.
     #[error("out of memory")]
     Memory,
-    /// The bytes aren't a library: `library_of` gives them a fault.
+    /// The bytes aren't a library: this is their fault by `library_of`.
     #[error("not a library")]
-    Refused,
+    Fault(LibFault),
 }
 
 impl From<Memory> for LibError {

@@ -1,10 +1,11 @@
 // The passes over a document, one class of faults at a time: each answers the first of its list.
 ghost use Rattle.std.specs.Prelude.{◌≡◌, [], option_map, map, IfOk, IfErr};
 ghost use Rattle.std.specs.List.{filter};
+ghost use Rattle.std.specs.List.Sorted.{IsStrictlySortedBy};
 ghost use Rattle.std.specs.Option.{option_copied};
 ghost use Rattle.toml.specs.Data.{table};
 ghost use Rattle.toml.specs.View.{view, table_view};
-ghost use Rattle.lib_read.specs.Fault.{first};
+ghost use Rattle.lib_read.specs.Fault.{first, least, text_cmp};
 ghost use Rattle.lib_read.specs.Tree as tree;
 ghost use Rattle.lib_read.specs.Schema as spec;
 ghost use Rattle.lib_read.specs.Keys.{key_view, fault_view, StopsAt};
@@ -34,8 +35,10 @@ fn is_known(keys: &[Key], name: &str) -> bool
 
 // The first key of a table that isn't one of some.
 fn unknown_key<'a>(keys: &[Key], row: &'a Table) -> Option<&'a str>
-    ensures { option_copied result ≡
-        first (faults.faulty_keys [] LibClass.UnknownKey (map key_view keys.now) (table (table_view row.now))) }
+    ensures first { option_copied result ≡
+        first (faults.unknown_keys (map key_view keys.now) (table (table_view row.now))) }
+    ensures ascend { IsStrictlySortedBy text_cmp
+        (faults.unknown_keys (map key_view keys.now) (table (table_view row.now))) }
 {
     for (name, _) in row {
         if !is_known(keys, name.as_str()) {
@@ -51,12 +54,16 @@ fn faulty_key(
     keys: &'static [Key],
     row: &Value,
     names: &Names,
+    top: &Value,
 ) -> Option<&'static str>
-    ensures { option_copied result ≡
-        first (map (λ key. key.name) (filter (spec.is_faulty names.now class (view row.now)) (map key_view keys.now))) }
+    requires { IsStrictlySortedBy text_cmp (map (λ key. key.name) (map key_view keys.now)) }
+    ensures first { option_copied result ≡
+        first (map (λ key. key.name) (filter (spec.is_faulty (view top.now) names.now class (view row.now)) (map key_view keys.now))) }
+    ensures ascend { IsStrictlySortedBy text_cmp
+        (map (λ key. key.name) (filter (spec.is_faulty (view top.now) names.now class (view row.now)) (map key_view keys.now))) }
 {
     for key in keys {
-        if is_faulty(class, key, row, names) {
+        if is_faulty(class, key, row, names, top) {
             return Some(key.name);
         }
     }
@@ -69,15 +76,23 @@ fn row_key<'a>(
     keys: &'static [Key],
     row: &'a Value,
     names: &Names,
+    top: &Value,
 ) -> Option<&'a str>
-    ensures { option_copied result ≡
-        first (faults.faulty_keys names.now class (map key_view keys.now) (view row.now)) }
+    requires { IsStrictlySortedBy text_cmp (map (λ key. key.name) (map key_view keys.now)) }
+    ensures first { option_copied result ≡
+        first (faults.faulty_keys (view top.now) names.now class (map key_view keys.now) (view row.now)) }
+    ensures ascend { IsStrictlySortedBy text_cmp
+        (faults.faulty_keys (view top.now) names.now class (map key_view keys.now) (view row.now)) }
 {
-    match row {
-        Value::Table(table) if class == LibClass::UnknownKey => unknown_key(keys, table),
-        Value::Table(_) => faulty_key(class, keys, row, names),
-        _ if class == LibClass::WrongKind => Some("-"),
-        _ => None,
+    match row.as_table() {
+        Some(table) => match class {
+            LibClass::UnknownKey => unknown_key(keys, table),
+            _ => faulty_key(class, keys, row, names, top),
+        },
+        None => match class {
+            LibClass::WrongKind => Some("-"),
+            _ => None,
+        },
     }
 }
 
@@ -88,10 +103,11 @@ pub(crate) fn row_fault<'a>(
     position: usize,
     row: &'a Value,
     names: &Names,
+    top: &Value,
 ) -> Option<Fault<'a>>
-    ensures { option_map fault_view result ≡ first (faults.row_faults names.now class table position (view row.now)) }
+    ensures { option_map fault_view result ≡ least (faults.row_faults (view top.now) names.now class table position (view row.now)) }
 {
-    match row_key(class, table_keys(table, row), row, names) {
+    match row_key(class, table_keys(table, row), row, names, top) {
         Some(key) => Some(Fault {
             class,
             table,
@@ -109,11 +125,11 @@ fn table_fault<'a>(
     top: &'a Value,
     names: &Names,
 ) -> Option<Fault<'a>>
-    ensures { option_map fault_view result ≡ first (faults.table_faults names.now class table (view top.now)) }
+    ensures { option_map fault_view result ≡ least (faults.table_faults names.now class table (view top.now)) }
 {
     let rows = rows_of(top, table);
     for (i, row) in rows.iter().enumerate() {
-        if let Some(fault) = row_fault(class, table, i + 1, row, names) {
+        if let Some(fault) = row_fault(class, table, i + 1, row, names, top) {
             return Some(fault);
         }
     }
@@ -122,9 +138,9 @@ fn table_fault<'a>(
 
 // The first fault of a class in the document and its tables.
 pub(crate) fn class_fault<'a>(class: LibClass, top: &'a Value, names: &Names) -> Option<Fault<'a>>
-    ensures { option_map fault_view result ≡ first (faults.class_faults names.now class (view top.now)) }
+    ensures { option_map fault_view result ≡ least (faults.class_faults names.now class (view top.now)) }
 {
-    if let Some(fault) = row_fault(class, TableName::Library, 0, top, names) {
+    if let Some(fault) = row_fault(class, TableName::Library, 0, top, names, top) {
         return Some(fault);
     }
     if let Some(fault) = table_fault(class, TableName::Types, top, names) {
@@ -139,7 +155,7 @@ pub(crate) fn class_fault<'a>(class: LibClass, top: &'a Value, names: &Names) ->
 // Whether the document and its tables have no fault of a class.
 fn check_class<'a>(class: LibClass, top: &'a Value, names: &Names) -> Result<(), Stop<'a>>
     ensures clear { IfOk result (λ _. faults.class_faults names.now class (view top.now) ≡ []) }
-    ensures stops { IfErr result (StopsAt (first (faults.class_faults names.now class (view top.now)))) }
+    ensures stops { IfErr result (StopsAt (least (faults.class_faults names.now class (view top.now)))) }
 {
     match class_fault(class, top, names) {
         Some(fault) => Err(Stop::Fault(fault)),
@@ -150,7 +166,7 @@ fn check_class<'a>(class: LibClass, top: &'a Value, names: &Names) -> Result<(),
 // Whether the document has no fault of the classes that are judged row by row.
 fn check_rows<'a>(alloc: Global, top: &'a Value) -> Result<(), Stop<'a>>
     ensures clear { IfOk result (λ _. faults.plain_faults (view top.now) ≡ []) }
-    ensures stops { IfErr result (StopsAt (first (faults.plain_faults (view top.now)))) }
+    ensures stops { IfErr result (StopsAt (least (faults.plain_faults (view top.now)))) }
 {
     let none = Names::new(alloc);
     check_class(LibClass::UnknownKey, top, &none)?;
@@ -163,7 +179,7 @@ fn check_rows<'a>(alloc: Global, top: &'a Value) -> Result<(), Stop<'a>>
 pub(crate) fn judge<'a>(alloc: Global, top: &'a Value) -> Result<Names<'a>, Stop<'a>>
     ensures names { IfOk result (λ names. names ≡ rows.type_names (view top.now)) }
     ensures clear { IfOk result (λ _. faults.judged_faults (view top.now) ≡ []) }
-    ensures stops { IfErr result (StopsAt (first (faults.judged_faults (view top.now)))) }
+    ensures stops { IfErr result (StopsAt (least (faults.judged_faults (view top.now)))) }
 {
     check_rows(alloc, top)?;
     let names = type_names(alloc, top)?;

@@ -1,20 +1,21 @@
 // The library of bytes.
-ghost use Rattle.std.specs.Prelude.{◌≡◌, [], Some, None, Ok, Err, IfOk, IfErr, IsErr, IsErrOf};
+ghost use Rattle.std.specs.Prelude.{◌≡◌, [], Some, None, Ok, Err, IfOk, IfErr, option_map};
 ghost use Rattle.toml.specs.View.{view};
-ghost use Rattle.lib_read.specs.Fault.{first, least};
+ghost use Rattle.lib_read.specs.Fault.{least};
 ghost use Rattle.lib_read.specs.Tree.{tree_of};
 ghost use Rattle.lib_read.specs.Faults as faults;
 ghost use Rattle.lib_read.specs.Rows as rows;
-ghost use Rattle.lib_read.specs.Keys.{StopsAt};
-ghost use Rattle.lib_read.specs.LibraryOf.{judged, library_of};
+ghost use Rattle.lib_read.specs.Keys.{StopsAt, Tells, fault_view};
+ghost use Rattle.lib_read.specs.LibraryOf.{judged, library_of, FaultOf};
 
-use crate::fault::{Fault, LibClass, LibError, Stop, TableName};
+use crate::components::component_names;
+use crate::fault::{Fault, LibClass, LibError, LibFault, Stop, TableName};
 use crate::names::Names;
 use crate::passes::judge;
 use crate::rows::{link_rows, pattern_rows, type_rows};
 use crate::values::rows_of;
-use arch_model::Library;
-use std::alloc::Global;
+use arch_model::{KeyText, Library, Memory};
+use std::alloc::{AllocError, Global};
 use template::{expand, has_few_components, has_few_edges};
 use toml::Value;
 
@@ -24,12 +25,31 @@ pub const LARGEST: usize = 1_048_576;
 // The greatest number of patterns.
 const PATTERNS: usize = 200;
 
-// A limit that is passed, by the key of its table.
-fn too_many(key: &str) -> Fault<'_>
-    ensures { result ≡ record { class = LibClass.TooMany; table = TableName.Library; position = 0; key = key.entry } }
+// A fault as an answer, with a key of its own.
+fn told(alloc: Global, fault: Fault) -> LibError
+    ensures { Tells (fault_view fault.entry) result }
+{
+    // No file of the greatest length has 2^32 rows.
+    let Ok(position) = u32::try_from(fault.position) else {
+        return LibError::Memory;
+    };
+    match Vec::from_slice(alloc, fault.key.as_bytes()) {
+        Ok(key) => LibError::Fault(LibFault {
+            class: fault.class,
+            table: fault.table,
+            position,
+            key: KeyText::new(key),
+        }),
+        Err(_) => LibError::Memory,
+    }
+}
+
+// A fault of the file as a whole.
+fn whole_file(class: LibClass, key: &str) -> Fault<'_>
+    ensures { result ≡ record { class = class; table = TableName.Library; position = 0; key = key.entry } }
 {
     Fault {
-        class: LibClass::TooMany,
+        class,
         table: TableName::Library,
         position: 0,
         key,
@@ -42,20 +62,21 @@ fn build<'a>(alloc: Global, top: &'a Value, names: &Names) -> Result<Library, St
     requires names { names.now ≡ rows.type_names (view top.now) }
     ensures clear { IfOk result (λ _. faults.limit_faults (view top.now) ≡ []) }
     ensures library { IfOk result (λ lib. lib ≡ rows.library_of_tree (view top.now)) }
-    ensures stops { IfErr result (StopsAt (first (faults.limit_faults (view top.now)))) }
+    ensures stops { IfErr result (StopsAt (least (faults.limit_faults (view top.now)))) }
 {
     let types = type_rows(alloc, top)?;
     if !has_few_components(&types) {
-        return Err(Stop::Fault(too_many("type")));
+        return Err(Stop::Fault(whole_file(LibClass::TooMany, "type")));
     }
     let links = link_rows(alloc, top, names)?;
     if !has_few_edges(&types, &links) {
-        return Err(Stop::Fault(too_many("link")));
+        return Err(Stop::Fault(whole_file(LibClass::TooMany, "link")));
     }
     if rows_of(top, TableName::Patterns).len() > PATTERNS {
-        return Err(Stop::Fault(too_many("pattern")));
+        return Err(Stop::Fault(whole_file(LibClass::TooMany, "pattern")));
     }
-    let patterns = pattern_rows(alloc, top, names)?;
+    let components = component_names(alloc, &types)?;
+    let patterns = pattern_rows(alloc, top, names, &components)?;
     let template = expand(alloc, &types, &links)?;
     Ok(Library::new(types, links, template, patterns, Vec::new(alloc)))
 }
@@ -63,24 +84,23 @@ fn build<'a>(alloc: Global, top: &'a Value, names: &Names) -> Result<Library, St
 // The library of a document.
 fn library_in<'a>(alloc: Global, top: &'a Value) -> Result<Library, Stop<'a>>
     ensures library { IfOk result (λ lib. judged (view top.now) (least (faults.faults_of (view top.now))) ≡ Ok lib) }
-    ensures stops { IfErr result (StopsAt (first (faults.faults_of (view top.now)))) }
+    ensures stops { IfErr result (StopsAt (least (faults.faults_of (view top.now)))) }
 {
     let names = judge(alloc, top)?;
     build(alloc, top, &names)
 }
 
-// The document that bytes are.
-fn tree(alloc: Global, bytes: &[u8]) -> Result<Value, LibError>
-    ensures tree { IfOk result (λ top. tree_of bytes.now ≡ Some (view top)) }
-    ensures refused { IsErrOf result LibError.Refused → tree_of bytes.now ≡ None }
+// The document that bytes are: none where they are no TOML document.
+fn tree(alloc: Global, bytes: &[u8]) -> Result<Option<Value>, Memory>
+    ensures { IfOk result (λ top. tree_of bytes.now ≡ option_map view top) }
 {
     match toml::table_from_slice(alloc, bytes) {
-        Ok(table) => Ok(Value::Table(table)),
+        Ok(table) => Ok(Some(Value::Table(table))),
         Err(e) => {
             if e.is_memory() {
-                Err(LibError::Memory)
+                Err(AllocError)
             } else {
-                Err(LibError::Refused)
+                Ok(None)
             }
         }
     }
@@ -88,20 +108,22 @@ fn tree(alloc: Global, bytes: &[u8]) -> Result<Value, LibError>
 
 /// Reads the bytes of a library file.
 ///
-/// Answers the library that the bytes are by `library_of`, or `Refused`, which comes only where
-/// they have a fault: more than 1048576 bytes, no TOML document, or a document with a fault of its
-/// keys, values, names, ranges or limits. `Memory` may always come, and says nothing of the bytes.
+/// Answers the library that the bytes are by `library_of`, or their fault by `library_of`: the
+/// first in the order of the classes, and within a class by table, position and key. `Memory` may
+/// always come, and says nothing of the bytes.
 pub fn read_library(alloc: Global, bytes: &[u8]) -> Result<Library, LibError>
     ensures library { IfOk result (λ lib. library_of bytes.now ≡ Ok lib) }
-    ensures refused { IsErrOf result LibError.Refused → IsErr (library_of bytes.now) }
+    ensures fault { IfErr result (FaultOf bytes.now) }
 {
     if bytes.len() > LARGEST {
-        return Err(LibError::Refused);
+        return Err(told(alloc, whole_file(LibClass::TooLarge, "-")));
     }
-    let top = tree(alloc, bytes)?;
+    let Some(top) = tree(alloc, bytes)? else {
+        return Err(told(alloc, whole_file(LibClass::NotToml, "-")));
+    };
     match library_in(alloc, &top) {
         Ok(library) => Ok(library),
         Err(Stop::Memory) => Err(LibError::Memory),
-        Err(Stop::Fault(_)) => Err(LibError::Refused),
+        Err(Stop::Fault(fault)) => Err(told(alloc, fault)),
     }
 }

@@ -1,7 +1,7 @@
 // Rows that repeat what an earlier row has.
 ghost use Rattle.std.specs.Prelude.{◌≡◌, [], option_map, IfOk, IfErr};
 ghost use Rattle.toml.specs.View.{view};
-ghost use Rattle.lib_read.specs.Fault.{first};
+ghost use Rattle.lib_read.specs.Fault.{least};
 ghost use Rattle.lib_read.specs.Faults as faults;
 ghost use Rattle.lib_read.specs.Rows as rows;
 ghost use Rattle.lib_read.specs.Keys.{StopsAt};
@@ -28,7 +28,7 @@ fn repeat(table: TableName, position: usize, key: &str) -> Fault<'_>
 pub(crate) fn type_names<'a>(alloc: Global, top: &'a Value) -> Result<Names<'a>, Stop<'a>>
     ensures names { IfOk result (λ names. names ≡ rows.type_names (view top.now)) }
     ensures clear { IfOk result (λ _. faults.repeated_names (view top.now) ≡ []) }
-    ensures stops { IfErr result (StopsAt (first (faults.repeated_names (view top.now)))) }
+    ensures stops { IfErr result (StopsAt (least (faults.repeated_names (view top.now)))) }
 {
     let mut names = Names::new(alloc);
     let rows = rows_of(top, TableName::Types);
@@ -58,7 +58,7 @@ fn link_ends(row: &Value) -> Option<(&str, &str)>
 // Whether no two links have the same pair of types.
 pub(crate) fn check_links<'a>(alloc: Global, top: &'a Value) -> Result<(), Stop<'a>>
     ensures clear { IfOk result (λ _. faults.repeated_links (view top.now) ≡ []) }
-    ensures stops { IfErr result (StopsAt (first (faults.repeated_links (view top.now)))) }
+    ensures stops { IfErr result (StopsAt (least (faults.repeated_links (view top.now)))) }
 {
     let mut pairs = Pairs::new(alloc);
     let rows = rows_of(top, TableName::Links);

@@ -1,22 +1,24 @@
 // The rows of a document without a fault.
-ghost use Rattle.std.specs.Prelude.{◌≡◌, ◌≤◌, length, IfOk};
+ghost use Rattle.std.specs.Prelude.{◌≡◌, ◌≤◌, length, map, string_bytes, IfOk, IfSome};
 ghost use Rattle.std.specs.List.{All};
 ghost use Rattle.toml.specs.View.{view};
 ghost use Rattle.arch_model.specs.Library.{IsTypeRow};
 ghost use Rattle.lib_read.specs.Rows as rows;
+ghost use Rattle.lib_read.specs.Components as comps;
 ghost use Rattle.lib_read.specs.Tree as tree;
 
+use crate::components::place_of;
 use crate::fault::TableName;
 use crate::names::Names;
 use crate::schema::{Kind, role_of, row_kind};
 use crate::values::{integer_at, rows_of, text_at};
-use arch_model::{LinkRow, Memory, Name, Pattern, Role, TypeRow};
+use arch_model::{CompId, LinkRow, Memory, Name, Pattern, Role, TypeRow};
 use std::alloc::Global;
 use toml::Value;
 
 // The number at a key.
 fn number_at(row: &Value, key: &str) -> Option<u64>
-    ensures { result ≡ rows.number_at key.now (view row.now) }
+    ensures { result ≡ comps.number_at key.now (view row.now) }
 {
     match integer_at(row, key) {
         Some(z) => Some(u64::try_from(z).unwrap_or(0)),
@@ -25,8 +27,8 @@ fn number_at(row: &Value, key: &str) -> Option<u64>
 }
 
 // The number at a key, and the one that stands for an absent one.
-fn number_or(absent: u64, row: &Value, key: &str) -> u64
-    ensures { result ≡ rows.number_or absent key.now (view row.now) }
+pub(crate) fn number_or(absent: u64, row: &Value, key: &str) -> u64
+    ensures { result ≡ comps.number_or absent key.now (view row.now) }
 {
     number_at(row, key).unwrap_or(absent)
 }
@@ -108,29 +110,87 @@ pub(crate) fn link_rows(alloc: Global, top: &Value, names: &Names) -> Result<Vec
     Ok(links)
 }
 
-// A pattern of the kind `count`.
-fn count_row(row: &Value, names: &Names) -> Pattern
-    requires names { length names.now ≤ 64 }
-    requires fits { rows.KindFits (view row.now) Kind.Count }
-    ensures { result ≡ rows.kind_row names.now (view row.now) Kind.Count }
+// The component that the text at a key names.
+fn component_at(row: &Value, key: &str, components: &[String]) -> CompId
+    requires { length components.now ≤ 64 }
+    ensures { result ≡ rows.component_at (map string_bytes components.now) key.now (view row.now) }
 {
-    Pattern::Count {
-        of: type_at(row, "type", names),
-        min: number_or(0, row, "min") as u32,
-        max: match number_at(row, "max") {
-            Some(max) => Some(max as u32),
-            None => None,
+    match text_at(row, key) {
+        Some(text) => CompId(place_of(text, components).unwrap_or(0) as u32),
+        None => CompId(0),
+    }
+}
+
+// The least number of a pattern's row.
+fn least_of(row: &Value) -> u32
+    requires { rows.least_of (view row.now) ≤ 512 }
+    ensures { result ≡ rows.least_of (view row.now) }
+{
+    number_or(0, row, "min") as u32
+}
+
+// The greatest number of a pattern's row, where it has one.
+fn most_of(row: &Value) -> Option<u32>
+    requires { IfSome (rows.most_of (view row.now)) (λ m. m ≤ 512) }
+    ensures { result ≡ rows.most_of (view row.now) }
+{
+    match number_at(row, "max") {
+        Some(max) => Some(max as u32),
+        None => None,
+    }
+}
+
+// The pattern of a kind that a row is.
+fn kind_row(row: &Value, kind: Kind, names: &Names, components: &[String]) -> Pattern
+    requires names { length names.now ≤ 64 }
+    requires components { length components.now ≤ 64 }
+    requires fits { rows.KindFits (view row.now) kind }
+    ensures { result ≡ rows.kind_row names.now (map string_bytes components.now) (view row.now) kind }
+{
+    let of = type_at(row, "type", names);
+    let (from, to) = (type_at(row, "from", names), type_at(row, "to", names));
+    let (a, b) = (type_at(row, "a", names), type_at(row, "b", names));
+    match kind {
+        Kind::Count => Pattern::Count {
+            of,
+            min: least_of(row),
+            max: most_of(row),
+        },
+        Kind::InDegree => Pattern::InDegree {
+            of,
+            from,
+            min: least_of(row),
+            max: most_of(row),
+        },
+        Kind::OutDegree => Pattern::OutDegree {
+            of,
+            to,
+            min: least_of(row),
+            max: most_of(row),
+        },
+        Kind::InNeedsOut => Pattern::InNeedsOut { of, from, to },
+        Kind::Exclusive => Pattern::Exclusive { of, a, b },
+        Kind::Implies => Pattern::Implies { a, b },
+        Kind::Forbid => Pattern::Forbid {
+            tail: component_at(row, "from", components),
+            head: component_at(row, "to", components),
+        },
+        Kind::TotalSupply => Pattern::TotalSupply,
+        Kind::LocalSupply => Pattern::LocalSupply { of },
+        Kind::CostCap => Pattern::CostCap {
+            max: number_or(0, row, "max"),
         },
     }
 }
 
-fn pattern_row(row: &Value, names: &Names) -> Option<Pattern>
+fn pattern_row(row: &Value, names: &Names, components: &[String]) -> Option<Pattern>
     requires names { length names.now ≤ 64 }
+    requires components { length components.now ≤ 64 }
     requires fits { rows.PatternFits (view row.now) }
-    ensures { result ≡ rows.pattern_row names.now (view row.now) }
+    ensures { result ≡ rows.pattern_row names.now (map string_bytes components.now) (view row.now) }
 {
     match row_kind(row) {
-        Some(Kind::Count) => Some(count_row(row, names)),
+        Some(kind) => Some(kind_row(row, kind, names, components)),
         None => None,
     }
 }
@@ -140,15 +200,17 @@ pub(crate) fn pattern_rows(
     alloc: Global,
     top: &Value,
     names: &Names,
+    components: &[String],
 ) -> Result<Vec<Pattern>, Memory>
     requires names { length names.now ≤ 64 }
+    requires components { length components.now ≤ 64 }
     requires fit { All rows.PatternFits (tree.rows_of TableName.Patterns (view top.now)) }
-    ensures { IfOk result (λ patterns. patterns.items ≡ rows.patterns_by names.now (view top.now)) }
+    ensures { IfOk result (λ patterns. patterns.items ≡ rows.patterns_by names.now (map string_bytes components.now) (view top.now)) }
 {
     let mut patterns = Vec::new(alloc);
     let rows = rows_of(top, TableName::Patterns);
     for row in rows {
-        if let Some(pattern) = pattern_row(row, names) {
+        if let Some(pattern) = pattern_row(row, names, components) {
             patterns.push(pattern)?;
         }
     }

@@ -22,6 +22,10 @@ pub(crate) enum Meaning {
     KindWord,
     /// The name of a type.
     TypeName,
+    /// The name of a type, other than the one that the key `a` names.
+    OtherName,
+    /// The name of a component.
+    ComponentName,
     /// An integer from `low` to `high`.
     Number { low: u64, high: u64 },
     /// Any text, and any integer.
@@ -33,6 +37,15 @@ pub(crate) enum Meaning {
 #[derive(Clone, Copy)]
 pub(crate) enum Kind {
     Count,
+    InDegree,
+    OutDegree,
+    InNeedsOut,
+    Exclusive,
+    Implies,
+    Forbid,
+    TotalSupply,
+    LocalSupply,
+    CostCap,
 }
 
 /// A key of a table.
@@ -46,6 +59,11 @@ pub(crate) struct Key {
 const COST: Meaning = Meaning::Number {
     low: 0,
     high: 1_000_000_000_000,
+};
+
+const TOTAL: Meaning = Meaning::Number {
+    low: 0,
+    high: 1_000_000_000_000_000,
 };
 
 const DEGREE: Meaning = Meaning::Number { low: 0, high: 512 };
@@ -150,8 +168,193 @@ static COUNT_KEYS: [Key; 4] = [
     },
 ];
 
-// The keys of a pattern whose kind isn't one of the words.
-static ANY_KEYS: [Key; 4] = [
+static INDEGREE_KEYS: [Key; 5] = [
+    Key {
+        name: "from",
+        required: true,
+        meaning: Meaning::TypeName,
+    },
+    Key {
+        name: "kind",
+        required: true,
+        meaning: Meaning::KindWord,
+    },
+    Key {
+        name: "max",
+        required: false,
+        meaning: DEGREE,
+    },
+    Key {
+        name: "min",
+        required: false,
+        meaning: DEGREE,
+    },
+    Key {
+        name: "type",
+        required: true,
+        meaning: Meaning::TypeName,
+    },
+];
+
+static OUTDEGREE_KEYS: [Key; 5] = [
+    Key {
+        name: "kind",
+        required: true,
+        meaning: Meaning::KindWord,
+    },
+    Key {
+        name: "max",
+        required: false,
+        meaning: DEGREE,
+    },
+    Key {
+        name: "min",
+        required: false,
+        meaning: DEGREE,
+    },
+    Key {
+        name: "to",
+        required: true,
+        meaning: Meaning::TypeName,
+    },
+    Key {
+        name: "type",
+        required: true,
+        meaning: Meaning::TypeName,
+    },
+];
+
+static IN_NEEDS_OUT_KEYS: [Key; 4] = [
+    Key {
+        name: "from",
+        required: true,
+        meaning: Meaning::TypeName,
+    },
+    Key {
+        name: "kind",
+        required: true,
+        meaning: Meaning::KindWord,
+    },
+    Key {
+        name: "to",
+        required: true,
+        meaning: Meaning::TypeName,
+    },
+    Key {
+        name: "type",
+        required: true,
+        meaning: Meaning::TypeName,
+    },
+];
+
+static EXCLUSIVE_KEYS: [Key; 4] = [
+    Key {
+        name: "a",
+        required: true,
+        meaning: Meaning::TypeName,
+    },
+    Key {
+        name: "b",
+        required: true,
+        meaning: Meaning::OtherName,
+    },
+    Key {
+        name: "kind",
+        required: true,
+        meaning: Meaning::KindWord,
+    },
+    Key {
+        name: "type",
+        required: true,
+        meaning: Meaning::TypeName,
+    },
+];
+
+static IMPLIES_KEYS: [Key; 3] = [
+    Key {
+        name: "a",
+        required: true,
+        meaning: Meaning::TypeName,
+    },
+    Key {
+        name: "b",
+        required: true,
+        meaning: Meaning::TypeName,
+    },
+    Key {
+        name: "kind",
+        required: true,
+        meaning: Meaning::KindWord,
+    },
+];
+
+static FORBID_KEYS: [Key; 3] = [
+    Key {
+        name: "from",
+        required: true,
+        meaning: Meaning::ComponentName,
+    },
+    Key {
+        name: "kind",
+        required: true,
+        meaning: Meaning::KindWord,
+    },
+    Key {
+        name: "to",
+        required: true,
+        meaning: Meaning::ComponentName,
+    },
+];
+
+static TOTAL_SUPPLY_KEYS: [Key; 1] = [Key {
+    name: "kind",
+    required: true,
+    meaning: Meaning::KindWord,
+}];
+
+static LOCAL_SUPPLY_KEYS: [Key; 2] = [
+    Key {
+        name: "kind",
+        required: true,
+        meaning: Meaning::KindWord,
+    },
+    Key {
+        name: "type",
+        required: true,
+        meaning: Meaning::TypeName,
+    },
+];
+
+static COST_CAP_KEYS: [Key; 2] = [
+    Key {
+        name: "kind",
+        required: true,
+        meaning: Meaning::KindWord,
+    },
+    Key {
+        name: "max",
+        required: true,
+        meaning: TOTAL,
+    },
+];
+
+// The keys of a pattern whose kind isn't one of the words: those of any kind.
+static ANY_KEYS: [Key; 8] = [
+    Key {
+        name: "a",
+        required: false,
+        meaning: Meaning::Text,
+    },
+    Key {
+        name: "b",
+        required: false,
+        meaning: Meaning::Text,
+    },
+    Key {
+        name: "from",
+        required: false,
+        meaning: Meaning::Text,
+    },
     Key {
         name: "kind",
         required: true,
@@ -166,6 +369,11 @@ static ANY_KEYS: [Key; 4] = [
         name: "min",
         required: false,
         meaning: Meaning::Integer,
+    },
+    Key {
+        name: "to",
+        required: false,
+        meaning: Meaning::Text,
     },
     Key {
         name: "type",
@@ -195,6 +403,24 @@ pub(crate) fn kind_of(text: &str) -> Option<Kind>
 {
     if text == "count" {
         Some(Kind::Count)
+    } else if text == "indegree" {
+        Some(Kind::InDegree)
+    } else if text == "outdegree" {
+        Some(Kind::OutDegree)
+    } else if text == "in_needs_out" {
+        Some(Kind::InNeedsOut)
+    } else if text == "exclusive" {
+        Some(Kind::Exclusive)
+    } else if text == "implies" {
+        Some(Kind::Implies)
+    } else if text == "forbid" {
+        Some(Kind::Forbid)
+    } else if text == "total_supply" {
+        Some(Kind::TotalSupply)
+    } else if text == "local_supply" {
+        Some(Kind::LocalSupply)
+    } else if text == "cost_cap" {
+        Some(Kind::CostCap)
     } else {
         None
     }
@@ -216,6 +442,15 @@ fn kind_keys(kind: Kind) -> &'static [Key]
 {
     match kind {
         Kind::Count => &COUNT_KEYS,
+        Kind::InDegree => &INDEGREE_KEYS,
+        Kind::OutDegree => &OUTDEGREE_KEYS,
+        Kind::InNeedsOut => &IN_NEEDS_OUT_KEYS,
+        Kind::Exclusive => &EXCLUSIVE_KEYS,
+        Kind::Implies => &IMPLIES_KEYS,
+        Kind::Forbid => &FORBID_KEYS,
+        Kind::TotalSupply => &TOTAL_SUPPLY_KEYS,
+        Kind::LocalSupply => &LOCAL_SUPPLY_KEYS,
+        Kind::CostCap => &COST_CAP_KEYS,
     }
 }
 

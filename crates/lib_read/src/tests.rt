@@ -3,9 +3,17 @@ use arch_model::{Pattern, Role};
 use std::alloc::Global;
 use std::test::Fail;
 
-// Why a text is no library.
-fn refusal(alloc: Global, text: &str) -> Option<LibError> {
-    read_library(alloc, text.as_bytes()).err()
+// What a file is: `a library`, or its fault's class, table, position and key.
+fn reading(alloc: Global, bytes: &[u8]) -> Result<String, Fail> {
+    match read_library(alloc, bytes) {
+        Ok(_) => Ok(String::from_str(alloc, "a library")?),
+        Err(LibError::Memory) => Ok(String::from_str(alloc, "out of memory")?),
+        Err(LibError::Fault(fault)) => {
+            let (class, table, position) = (fault.class, fault.table, fault.position);
+            let key = str::from_utf8(fault.key.bytes()).unwrap_or("?");
+            Ok(format!(in alloc; "{class:?} {table:?} {position} {key}")?)
+        }
+    }
 }
 
 const CHAIN: &str = r#"type = [
@@ -97,7 +105,8 @@ pattern = [{kind = "count", type = "a", min = 512, max = 0}]"#,
         r#"type = [{name = "a", role = "sink"}, {name = "b", role = "sink"}]
 link = [{from = "a", to = "b"}, {from = "b", to = "a"}, {from = "a", to = "a"}]"#,
     ] {
-        assert_eq!(rt; refusal(rt.alloc(), text), None, "{text}");
+        let read = reading(rt.alloc(), text.as_bytes())?;
+        assert_eq!(rt; read.as_str(), "a library", "{text}");
     }
     Ok(())
 }
@@ -113,70 +122,503 @@ link = [{from = "a", to = "a"}]"#;
 
 #[test]
 fn faulty_files_are_refused(rt: HostRuntime) -> Result<(), Fail> {
-    for text in [
+    for (text, fault) in [
         // no TOML
-        "type = [",
-        "a = 1\na = 2",
+        ("type = [", "NotToml Library 0 -"),
+        ("a = 1\na = 2", "NotToml Library 0 -"),
         // keys and kinds
-        "zz = 1",
-        "type = [{}]",
-        "type = 1",
-        "type = [1]",
-        "type.a = 1",
-        "require = []",
-        r#"type = [{name = "a", role = "sink", zz = 1}]"#,
-        r#"type = [{name = "a", role = "sink", cost.a = 1}]"#,
-        r#"type = [{name = "a", role = "sink", cost = 1.5}]"#,
-        r#"type = [{name = 1, role = "sink"}]"#,
+        ("zz = 1", "UnknownKey Library 0 zz"),
+        ("zz = 1\nab.c = 1\nzzz = 1", "UnknownKey Library 0 ab"),
+        ("type = [{}]", "MissingKey Types 1 name"),
+        ("type = 1", "WrongKind Library 0 type"),
+        ("type = [1]", "WrongKind Types 1 -"),
+        ("type.a = 1", "WrongKind Library 0 type"),
+        ("require = []", "UnknownKey Library 0 require"),
+        (
+            r#"type = [{name = "a", role = "sink", zz = 1, "\u00e4" = 1, "" = 1}]"#,
+            "UnknownKey Types 1 ",
+        ),
+        (
+            r#"type = [{name = "a", role = "sink", "\u00e4" = 1, zz = 1}]"#,
+            "UnknownKey Types 1 zz",
+        ),
+        (
+            r#"type = [{name = "a", role = "sink", "\u00e4" = 1}]"#,
+            "UnknownKey Types 1 ä",
+        ),
+        (
+            r#"type = [{name = "a", role = "sink", cost.a = 1}]"#,
+            "WrongKind Types 1 cost",
+        ),
+        (
+            r#"type = [{name = "a", role = "sink", cost = 1.5}]"#,
+            "WrongKind Types 1 cost",
+        ),
+        (
+            r#"type = [{name = 1, role = "sink"}]"#,
+            "WrongKind Types 1 name",
+        ),
         // names
-        r#"type = [{name = "A", role = "sink"}]"#,
-        r#"type = [{name = "", role = "sink"}]"#,
-        r#"type = [{name = "1a", role = "sink"}]"#,
-        r#"type = [{name = "abcdefghijklmnopqrstuvwxy", role = "sink"}]"#,
-        r#"type = [{name = "a", role = "sink"}, {name = "a", role = "source"}]"#,
+        (
+            r#"type = [{name = "A", role = "sink"}]"#,
+            "BadName Types 1 name",
+        ),
+        (
+            r#"type = [{name = "", role = "sink"}]"#,
+            "BadName Types 1 name",
+        ),
+        (
+            r#"type = [{name = "a", role = "sink"}, {name = "1a", role = "sink"}]"#,
+            "BadName Types 2 name",
+        ),
+        (
+            r#"type = [{name = "abcdefghijklmnopqrstuvwxy", role = "sink"}]"#,
+            "BadName Types 1 name",
+        ),
+        (
+            r#"type = [{name = "a", role = "sink"}, {name = "a", role = "source"}]"#,
+            "Duplicate Types 2 name",
+        ),
         // ranges
-        r#"type = [{name = "a", role = "x"}]"#,
-        r#"type = [{name = "a", role = "sink", fail = 1000001}]"#,
-        r#"type = [{name = "a", role = "sink", cost = 1000000000001}]"#,
-        r#"type = [{name = "a", role = "sink", cost = -1}]"#,
-        r#"type = [{name = "a", role = "sink", max = 0}]"#,
-        r#"type = [{name = "a", role = "sink", max = 65}]"#,
+        (r#"type = [{name = "a", role = "x"}]"#, "Range Types 1 role"),
+        (
+            r#"type = [{name = "a", role = "sink", fail = 1000001}]"#,
+            "Range Types 1 fail",
+        ),
+        (
+            r#"type = [{name = "a", role = "sink", cost = 1000000000001}]"#,
+            "Range Types 1 cost",
+        ),
+        (
+            r#"type = [{name = "a", role = "sink", cost = -1}]"#,
+            "Range Types 1 cost",
+        ),
+        (
+            r#"type = [{name = "a", role = "sink", max = 0}]"#,
+            "Range Types 1 max",
+        ),
+        (
+            r#"type = [{name = "a", role = "sink", max = 65}]"#,
+            "Range Types 1 max",
+        ),
         // links
-        r#"link = [{from = "a", to = "b"}]"#,
-        r#"type = [{name = "a", role = "sink"}]
+        (
+            r#"link = [{from = "a", to = "b"}]"#,
+            "UnknownName Links 1 from",
+        ),
+        (
+            r#"type = [{name = "a", role = "sink"}]
 link = [{from = "a"}]"#,
-        r#"type = [{name = "a", role = "sink"}]
+            "MissingKey Links 1 to",
+        ),
+        (
+            r#"type = [{name = "a", role = "sink"}]
 link = [{from = "a", to = "a", fail = 0}]"#,
-        r#"type = [{name = "a", role = "sink"}]
+            "UnknownKey Links 1 fail",
+        ),
+        (
+            r#"type = [{name = "a", role = "sink"}]
 link = [{from = "a", to = "b"}]"#,
-        r#"type = [{name = "a", role = "sink"}]
+            "UnknownName Links 1 to",
+        ),
+        (
+            r#"type = [{name = "a", role = "sink"}]
 link = [{from = "a", to = "a"}, {from = "a", to = "a"}]"#,
+            "Duplicate Links 2 to",
+        ),
         // patterns
-        r#"type = [{name = "a", role = "sink"}]
+        (
+            r#"type = [{name = "a", role = "sink"}]
 pattern = [{type = "a"}]"#,
-        r#"type = [{name = "a", role = "sink"}]
+            "MissingKey Patterns 1 kind",
+        ),
+        (
+            r#"type = [{name = "a", role = "sink"}]
 pattern = [{kind = "count"}]"#,
-        r#"type = [{name = "a", role = "sink"}]
+            "MissingKey Patterns 1 type",
+        ),
+        (
+            r#"type = [{name = "a", role = "sink"}]
 pattern = [{kind = 1, type = "a"}]"#,
-        r#"type = [{name = "a", role = "sink"}]
-pattern = [{kind = "indegree", type = "a"}]"#,
-        r#"type = [{name = "a", role = "sink"}]
+            "WrongKind Patterns 1 kind",
+        ),
+        (
+            r#"type = [{name = "a", role = "sink"}]
+pattern = [{kind = "in", type = "a"}]"#,
+            "Range Patterns 1 kind",
+        ),
+        (
+            r#"type = [{name = "a", role = "sink"}]
 pattern = [{kind = "count", type = "b"}]"#,
-        r#"type = [{name = "a", role = "sink"}]
+            "UnknownName Patterns 1 type",
+        ),
+        (
+            r#"type = [{name = "a", role = "sink"}]
 pattern = [{kind = "count", type = "a", min = 513}]"#,
-        r#"type = [{name = "a", role = "sink"}]
+            "Range Patterns 1 min",
+        ),
+        (
+            r#"type = [{name = "a", role = "sink"}]
 pattern = [{kind = "count", type = "a", from = "a"}]"#,
+            "UnknownKey Patterns 1 from",
+        ),
         // 65 components, 513 edges
-        r#"type = [{name = "a", role = "sink", max = 33}, {name = "b", role = "sink", max = 32}]"#,
-        r#"type = [{name = "a", role = "sink", max = 27}, {name = "b", role = "sink", max = 19}]
+        (
+            r#"type = [{name = "a", role = "sink", max = 33}, {name = "b", role = "sink", max = 32}]"#,
+            "TooMany Library 0 type",
+        ),
+        (
+            r#"type = [{name = "a", role = "sink", max = 27}, {name = "b", role = "sink", max = 19}]
 link = [{from = "a", to = "b"}]"#,
+            "TooMany Library 0 link",
+        ),
     ] {
-        assert_eq!(rt;
-            refusal(rt.alloc(), text),
-            Some(LibError::Refused),
-            "{text}"
-        );
+        let read = reading(rt.alloc(), text.as_bytes())?;
+        assert_eq!(rt; read.as_str(), fault, "{text}");
     }
+    Ok(())
+}
+
+// What a pattern is, in a line.
+fn shown(alloc: Global, pattern: Pattern) -> Result<String, Fail> {
+    Ok(match pattern {
+        Pattern::Count { of, min, max } => format!(in alloc; "count {of} {min} {max:?}")?,
+        Pattern::InDegree { of, from, min, max } => {
+            format!(in alloc; "indegree {of} {from} {min} {max:?}")?
+        }
+        Pattern::OutDegree { of, to, min, max } => {
+            format!(in alloc; "outdegree {of} {to} {min} {max:?}")?
+        }
+        Pattern::InNeedsOut { of, from, to } => {
+            format!(in alloc; "in_needs_out {of} {from} {to}")?
+        }
+        Pattern::Exclusive { of, a, b } => format!(in alloc; "exclusive {of} {a} {b}")?,
+        Pattern::Implies { a, b } => format!(in alloc; "implies {a} {b}")?,
+        Pattern::Forbid { tail, head } => {
+            let (tail, head) = (tail.0, head.0);
+            format!(in alloc; "forbid {tail} {head}")?
+        }
+        Pattern::TotalSupply => String::from_str(alloc, "total_supply")?,
+        Pattern::LocalSupply { of } => format!(in alloc; "local_supply {of}")?,
+        Pattern::CostCap { max } => format!(in alloc; "cost_cap {max}")?,
+    })
+}
+
+const THREE_TYPES: &str = r#"type = [
+  {name = "a", role = "source", max = 2},
+  {name = "b", role = "middle"},
+  {name = "c", role = "sink", max = 3},
+]
+"#;
+
+// A pattern over three types, `a` with two instances, `b` with one and `c` with three.
+fn with_pattern(alloc: Global, row: &str) -> Result<String, Fail> {
+    Ok(format!(in alloc; "{THREE_TYPES}[[pattern]]\n{row}\n")?)
+}
+
+#[test]
+fn patterns_of_each_kind_are_read(rt: HostRuntime) -> Result<(), Fail> {
+    for (row, said) in [
+        (
+            r#"kind = "count"
+type = "c""#,
+            "count 2 0 None",
+        ),
+        (
+            r#"kind = "indegree"
+type = "c"
+from = "b""#,
+            "indegree 2 1 0 None",
+        ),
+        (
+            r#"kind = "indegree"
+type = "b"
+from = "a"
+min = 1
+max = 2"#,
+            "indegree 1 0 1 Some(2)",
+        ),
+        (
+            r#"kind = "outdegree"
+type = "a"
+to = "b"
+max = 512"#,
+            "outdegree 0 1 0 Some(512)",
+        ),
+        (
+            r#"kind = "in_needs_out"
+type = "b"
+from = "a"
+to = "c""#,
+            "in_needs_out 1 0 2",
+        ),
+        (
+            r#"kind = "exclusive"
+type = "c"
+a = "a"
+b = "b""#,
+            "exclusive 2 0 1",
+        ),
+        (
+            r#"kind = "implies"
+a = "c"
+b = "a""#,
+            "implies 2 0",
+        ),
+        (
+            r#"kind = "forbid"
+from = "a.2"
+to = "c.3""#,
+            "forbid 1 5",
+        ),
+        (
+            r#"kind = "forbid"
+from = "b.1"
+to = "b.1""#,
+            "forbid 2 2",
+        ),
+        (r#"kind = "total_supply""#, "total_supply"),
+        (
+            r#"kind = "local_supply"
+type = "b""#,
+            "local_supply 1",
+        ),
+        (
+            r#"kind = "cost_cap"
+max = 1000000000000000"#,
+            "cost_cap 1000000000000000",
+        ),
+    ] {
+        let text = with_pattern(rt.alloc(), row)?;
+        let library = read_library(rt.alloc(), text.as_bytes())?;
+        assert_eq!(rt; library.patterns().len(), 1, "{row}");
+        let read = shown(rt.alloc(), library.patterns()[0])?;
+        assert_eq!(rt; read.as_str(), said, "{row}");
+    }
+    Ok(())
+}
+
+#[test]
+fn faulty_patterns_are_refused(rt: HostRuntime) -> Result<(), Fail> {
+    for (row, fault) in [
+        // keys of other kinds
+        (
+            r#"kind = "total_supply"
+max = 1"#,
+            "UnknownKey Patterns 1 max",
+        ),
+        (
+            r#"kind = "implies"
+a = "a"
+b = "b"
+type = "c""#,
+            "UnknownKey Patterns 1 type",
+        ),
+        // keys that are required
+        (r#"kind = "exclusive""#, "MissingKey Patterns 1 a"),
+        (r#"kind = "cost_cap""#, "MissingKey Patterns 1 max"),
+        (
+            r#"kind = "indegree"
+type = "c""#,
+            "MissingKey Patterns 1 from",
+        ),
+        // values
+        (
+            r#"kind = "cost_cap"
+max = "1""#,
+            "WrongKind Patterns 1 max",
+        ),
+        (
+            r#"kind = "outdegree"
+type = "a"
+to = "d""#,
+            "UnknownName Patterns 1 to",
+        ),
+        (
+            r#"kind = "exclusive"
+type = "c"
+a = "d"
+b = "d""#,
+            "UnknownName Patterns 1 a",
+        ),
+        (
+            r#"kind = "exclusive"
+type = "c"
+a = "b"
+b = "b""#,
+            "Range Patterns 1 b",
+        ),
+        (
+            r#"kind = "cost_cap"
+max = 1000000000000001"#,
+            "Range Patterns 1 max",
+        ),
+        (
+            r#"kind = "indegree"
+type = "c"
+from = "a"
+max = -1
+min = 513"#,
+            "Range Patterns 1 max",
+        ),
+        (
+            r#"kind = "forbid"
+from = "a.1""#,
+            "MissingKey Patterns 1 to",
+        ),
+        (
+            r#"kind = "forbid"
+from = "a.1"
+to = 1"#,
+            "WrongKind Patterns 1 to",
+        ),
+        (
+            r#"kind = "forbid"
+from = "a"
+to = "d.1""#,
+            "UnknownName Patterns 1 from",
+        ),
+        // a kind that isn't one of the words: the keys of any kind, texts but for min and max
+        (r#"kind = "some""#, "Range Patterns 1 kind"),
+        (
+            r#"kind = "some"
+colour = 1"#,
+            "UnknownKey Patterns 1 colour",
+        ),
+        (
+            r#"kind = "some"
+from = "nothing"
+min = 9999"#,
+            "Range Patterns 1 kind",
+        ),
+        (
+            r#"kind = "some"
+to = 1
+type = 1"#,
+            "WrongKind Patterns 1 to",
+        ),
+        (r#"min = 1.5"#, "MissingKey Patterns 1 kind"),
+    ] {
+        let text = with_pattern(rt.alloc(), row)?;
+        let read = reading(rt.alloc(), text.as_bytes())?;
+        assert_eq!(rt; read.as_str(), fault, "{row}");
+    }
+    Ok(())
+}
+
+// What a file is whose first type, `a`, has a `max`, and that forbids an edge of a component.
+fn forbidding(alloc: Global, max: &str, name: &str) -> Result<String, Fail> {
+    let text = format!(in alloc;
+        r#"type = [{{name = "a", role = "sink"{max}}}, {{name = "b", role = "sink", max = 12}}]
+pattern = [{{kind = "forbid", from = "b.12", to = "{name}"}}]"#
+    )?;
+    reading(alloc, text.as_bytes())
+}
+
+#[test]
+fn components_exist_up_to_the_max_as_written(rt: HostRuntime) -> Result<(), Fail> {
+    for (max, name, said) in [
+        ("", "a.1", "a library"),
+        ("", "a.2", "UnknownName Patterns 1 to"),
+        (", max = 3", "a.3", "a library"),
+        (", max = 3", "a.4", "UnknownName Patterns 1 to"),
+        (", max = 3", "a.0", "UnknownName Patterns 1 to"),
+        (", max = 3", "a.01", "UnknownName Patterns 1 to"),
+        (", max = 3", "a.+1", "UnknownName Patterns 1 to"),
+        (", max = 3", "a.", "UnknownName Patterns 1 to"),
+        (", max = 3", "a", "UnknownName Patterns 1 to"),
+        (", max = 3", "a.1 ", "UnknownName Patterns 1 to"),
+        (
+            ", max = 3",
+            "a.18446744073709551617",
+            "UnknownName Patterns 1 to",
+        ),
+        (", max = 3", "b.10", "a library"),
+        (", max = 3", "b.13", "UnknownName Patterns 1 to"),
+        (", max = 3", "c.1", "UnknownName Patterns 1 to"),
+        (", max = 0", "a.1", "UnknownName Patterns 1 to"),
+        (", max = -3", "a.1", "UnknownName Patterns 1 to"),
+        (", max = 1000", "a.65", "Range Types 1 max"),
+        (", max = 1000", "a.1001", "UnknownName Patterns 1 to"),
+        (
+            ", max = 9223372036854775807",
+            "a.9223372036854775807",
+            "Range Types 1 max",
+        ),
+    ] {
+        let read = forbidding(rt.alloc(), max, name)?;
+        assert_eq!(rt; read.as_str(), said, "{max} {name}");
+    }
+    Ok(())
+}
+
+// A library with faults of each class, and what mends them: each step mends its first fault.
+#[test]
+fn faults_come_by_class_then_table_then_place_then_key(rt: HostRuntime) -> Result<(), Fail> {
+    let mut text = String::from_str(
+        rt.alloc(),
+        r#"type = [
+  {name = "a", role = "source", cost = -1, max = 65, supply = 0.5},
+  {name = "B", role = "middle", max = 60},
+  {name = "a", role = "end", zz = 1, aa = 1},
+]
+link = [{from = "a", to = "c", y = 1}, {from = "a"}, {from = "a", to = "c"}]
+pattern = [{kind = "count", type = "d", min = 600, x = 1}]
+w = 1
+"#,
+    )?;
+    for (fault, old, new) in [
+        ("UnknownKey Library 0 w", "w = 1\n", ""),
+        ("UnknownKey Types 3 aa", ", aa = 1", ""),
+        ("UnknownKey Types 3 zz", ", zz = 1", ""),
+        ("UnknownKey Links 1 y", ", y = 1", ""),
+        ("UnknownKey Patterns 1 x", ", x = 1", ""),
+        (
+            "MissingKey Links 2 to",
+            r#"{from = "a"}"#,
+            r#"{from = "c", to = "a"}"#,
+        ),
+        ("WrongKind Types 1 supply", "supply = 0.5", "supply = 5"),
+        ("BadName Types 2 name", r#""B""#, r#""b""#),
+        (
+            "Duplicate Types 3 name",
+            r#""a", role = "end""#,
+            r#""e", role = "end""#,
+        ),
+        ("Duplicate Links 3 to", r#", {from = "a", to = "c"}]"#, "]"),
+        ("UnknownName Links 1 to", r#"to = "c""#, r#"to = "b""#),
+        ("UnknownName Links 2 from", r#"from = "c""#, r#"from = "b""#),
+        ("UnknownName Patterns 1 type", r#""d""#, r#""e""#),
+        ("Range Types 1 cost", "cost = -1", "cost = 1"),
+        ("Range Types 1 max", "max = 65", "max = 4"),
+        ("Range Types 3 role", r#""end""#, r#""sink""#),
+        ("Range Patterns 1 min", "min = 600", "min = 0"),
+        ("TooMany Library 0 type", "max = 60", "max = 6"),
+    ] {
+        let read = reading(rt.alloc(), text.as_bytes())?;
+        assert_eq!(rt; read.as_str(), fault);
+        text = text.replace(rt.alloc(), old, new)?;
+    }
+    let read = reading(rt.alloc(), text.as_bytes())?;
+    assert_eq!(rt; read.as_str(), "a library");
+    Ok(())
+}
+
+// A second type with the key `colour`, and a second link that repeats the first.
+const COLOURED: &str = r#"type = [
+  {name = "a", role = "source"},
+  {name = "b", role = "sink", colour = 1},
+]
+link = [{from = "a", to = "b"}, {from = "a", to = "b"}]
+"#;
+
+#[test]
+fn an_unknown_key_comes_before_a_repeated_link(rt: HostRuntime) -> Result<(), Fail> {
+    let read = reading(rt.alloc(), COLOURED.as_bytes())?;
+    assert_eq!(rt; read.as_str(), "UnknownKey Types 2 colour");
+    let plain = COLOURED.replace(rt.alloc(), ", colour = 1", "")?;
+    let read = reading(rt.alloc(), plain.as_bytes())?;
+    assert_eq!(rt; read.as_str(), "Duplicate Links 2 to");
     Ok(())
 }
 
@@ -202,25 +644,25 @@ type = "a"
 
 #[test]
 fn at_most_200_patterns_are_read(rt: HostRuntime) -> Result<(), Fail> {
-    let text = with_patterns(rt.alloc(), 200)?;
-    assert_eq!(rt; refusal(rt.alloc(), text.as_str()), None);
-    let text = with_patterns(rt.alloc(), 201)?;
-    assert_eq!(rt; refusal(rt.alloc(), text.as_str()), Some(LibError::Refused));
+    for (n, said) in [(200, "a library"), (201, "TooMany Library 0 pattern")] {
+        let text = with_patterns(rt.alloc(), n)?;
+        let read = reading(rt.alloc(), text.as_bytes())?;
+        assert_eq!(rt; read.as_str(), said);
+    }
     Ok(())
 }
 
 #[test]
 fn bytes_are_refused(rt: HostRuntime) -> Result<(), Fail> {
-    assert_eq!(rt;
-        read_library(rt.alloc(), &[255]).err(),
-        Some(LibError::Refused)
-    );
-    let blank = vec![in rt.alloc(); b'\n'; LARGEST]?;
-    assert_eq!(rt; read_library(rt.alloc(), &blank).err(), None);
-    let blank = vec![in rt.alloc(); b'\n'; LARGEST + 1]?;
-    assert_eq!(rt;
-        read_library(rt.alloc(), &blank).err(),
-        Some(LibError::Refused)
-    );
+    let read = reading(rt.alloc(), &[255])?;
+    assert_eq!(rt; read.as_str(), "NotToml Library 0 -");
+    for (n, said) in [
+        (LARGEST, "a library"),
+        (LARGEST + 1, "TooLarge Library 0 -"),
+    ] {
+        let blank = vec![in rt.alloc(); b'\n'; n]?;
+        let read = reading(rt.alloc(), &blank)?;
+        assert_eq!(rt; read.as_str(), said);
+    }
     Ok(())
 }

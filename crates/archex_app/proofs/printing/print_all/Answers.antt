@@ -1,4 +1,4 @@
-use Rattle.std.proofs.Common.{take, drop, length, sym, refl, arith}
+use Rattle.std.proofs.Common.{take, drop, sym, refl, arith}
 use Rattle.std.proofs.lemmas.List.{take-append-drop}
 use Rattle.archex_app.proofs.Pieces.{appends_no_more, print_more, print_within, on_err_holds}
 use Rattle.archex_app.proofs.printing.print_all.Goals as goal

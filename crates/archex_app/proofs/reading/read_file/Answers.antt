@@ -1,6 +1,5 @@
-use Rattle.std.proofs.Common.{ℕ, arith, sym, List, length, ◌≤◌}
+use Rattle.std.proofs.Common.{arith, length, ◌≤◌}
 use Rattle.archex_app.specs.declared.reading.TheConstants.{READ_LIMIT}
-use Rattle.archex_app.specs.Reading.{IsFront, IsWhole}
 use Rattle.archex_app.proofs.Pieces.{read_whole, read_full, same_front, same_whole}
 use Rattle.archex_app.proofs.reading.read_file.Goals as goal
 

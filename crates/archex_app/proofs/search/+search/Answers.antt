@@ -1,4 +1,4 @@
-use Rattle.std.proofs.Common.{refl, subst, ◌+◌, ◌≡◌, arith, length, ap, true, false, sym, ◌∙◌}
+use Rattle.std.proofs.Common.{subst, ◌≡◌, arith, length, ap, true, false, sym, ◌∙◌}
 use Rattle.arch_model.specs.Parts.{ArchitectureParts}
 use Rattle.arch_model.specs.Member.{member_count}
 use Rattle.archex_app.specs.Cheapest.{MeetsPatterns}

@@ -8,5 +8,5 @@ use Rattle.lib_read.proofs.passes.faulty_key.Given as goal
 
 abbrev pub invariant-loop-key : goal.invariant-loop-key
 invariant-loop-key l =
-    first (map (λ key. key.name) (filter (spec.is_faulty l.names l.class (view l.row)) (map key_view (drop l.key-index l.keys))))
-    ≡ first (map (λ key. key.name) (filter (spec.is_faulty l.names l.class (view l.row)) (map key_view l.keys)))
+    first (map (λ key. key.name) (filter (spec.is_faulty (view l.top) l.names l.class (view l.row)) (map key_view (drop l.key-index l.keys))))
+    ≡ first (map (λ key. key.name) (filter (spec.is_faulty (view l.top) l.names l.class (view l.row)) (map key_view l.keys)))

@@ -1,14 +1,16 @@
-use Rattle.std.proofs.Common.{◌≤◌, length, refl, sym, ap, subst, ◌∙◌, arith}
-use Rattle.std.specs.List.{All}
+use Rattle.std.proofs.Common.{◌≤◌, map, string_bytes, length, refl, sym, ap, subst, ◌∙◌, arith}
+use Rattle.std.specs.List.{All, flat_map}
 use Rattle.toml.specs.View.{view}
 use Rattle.std.proofs.lemmas.List.{length-map}
 use Rattle.arch_model.specs.declared.limits.TheConstants.{COMPONENTS, EDGES}
 use Rattle.arch_model.specs.Template.{template_of, components_of, edges_of}
-use Rattle.lib_read.specs.declared.fault.TableName.TheVariants.{Patterns}
+use Rattle.lib_read.specs.declared.fault.TableName.TheVariants.{Types, Patterns}
 use Rattle.lib_read.specs.Tree.{rows_of}
 use Rattle.arch_model.specs.Library.{IsTypeRow, IsLinkRow, IsLibrary}
-use Rattle.lib_read.specs.Rows.{types_of, links_by, patterns_by}
-use Rattle.lib_read.proofs.CleanLibrary.{judged_parts, types_fit, links_fit, few_names, parts_are, pattern_rows_fit, is_library}
+use Rattle.lib_read.specs.Components.{names_of_type}
+use Rattle.lib_read.specs.Rows.{type_names, types_of, links_by, patterns_by}
+use Rattle.lib_read.proofs.CleanLibrary.{judged_parts, types_fit, links_fit, few_names, parts_are, pattern_rows_fit, is_library, as_many}
+use Rattle.lib_read.proofs.ComponentLemmas.{same_names}
 use Rattle.lib_read.proofs.reader.build.Goals as goal
 
 pub type_rows-requires : goal.type_rows-requires
@@ -41,13 +43,21 @@ pattern_rows-requires-clause-names c =
     let few = subst (λ rows. length (components_of rows) ≤ COMPONENTS) types (c.if-not-has_few_components.ensures.0 refl) in
     subst (λ names. length names ≤ 64) (sym c.requires.names) (few_names top (judged_parts top c.requires.judged) few)
 
+pub pattern_rows-requires-clause-components : goal.pattern_rows-requires-clause-components
+pattern_rows-requires-clause-components c =
+    let top = view c.args.top.now in
+    let types = c.deref.ensures.value ∙ c.in_ok-types.ensures in
+    let few = subst (λ rows. length (components_of rows) ≤ COMPONENTS) types (c.if-not-has_few_components.ensures.0 refl) in
+    let components = ap (map string_bytes) c.deref-5.ensures.value ∙ c.in_ok-components.ensures ∙ ap (flat_map names_of_type) (c.deref-4.ensures.value ∙ c.in_ok-types.ensures) ∙ same_names (rows_of Types top) in
+    omega (arith, few, as_many top, ap length components, length-map c.deref-5.result.now string_bytes)
+
 pub pattern_rows-requires-clause-fit : goal.pattern_rows-requires-clause-fit
 pattern_rows-requires-clause-fit c = let top = view c.args.top.now in pattern_rows_fit top (judged_parts top c.requires.judged)
 
 pub expand-requires-clause-rows : goal.expand-requires-clause-rows
 expand-requires-clause-rows c =
     let top = view c.args.top.now in
-    subst (All IsTypeRow) (sym (c.deref-4.ensures.value ∙ c.in_ok-types.ensures)) (types_fit top (judged_parts top c.requires.judged))
+    subst (All IsTypeRow) (sym (c.deref-6.ensures.value ∙ c.in_ok-types.ensures)) (types_fit top (judged_parts top c.requires.judged))
 
 pub new-requires-2 : goal.new-requires-2
 new-requires-2 c =
@@ -58,7 +68,17 @@ new-requires-2 c =
     let edges = subst (λ rows. length (edges_of (components_of rows) c.deref-3.result.now) ≤ EDGES) (c.deref-2.ensures.value ∙ c.in_ok-types.ensures) (c.if-not-has_few_edges.ensures.0 refl) in
     let whole_edges = subst (λ rows. length (edges_of (components_of (types_of top)) rows) ≤ EDGES) (c.deref-3.ensures.value ∙ links) edges in
     let patterns : length (rows_of Patterns top) ≤ 200 = omega (arith, length-map c.rows_of.result.now view, ap length c.rows_of.ensures, c.if-rows_of-gt-PATTERNS.false) in
-    let template = c.in_ok-template.ensures ∙ ap (λ rows. template_of rows c.deref-5.result.now) c.deref-4.ensures.value ∙ ap (template_of c.in_ok-types.types.items) c.deref-5.ensures.value in
+    let template = c.in_ok-template.ensures ∙ ap (λ rows. template_of rows c.deref-7.result.now) c.deref-6.ensures.value ∙ ap (template_of c.in_ok-types.types.items) c.deref-7.ensures.value in
+    let components = ap (map string_bytes) c.deref-5.ensures.value ∙ c.in_ok-components.ensures ∙ ap (flat_map names_of_type) (c.deref-4.ensures.value ∙ c.in_ok-types.ensures) ∙ same_names (rows_of Types top) in
     subst IsLibrary
-    (sym (parts_are top c.in_ok-types.types.items c.in_ok-links.links.items c.in_ok-template.template c.in_ok-patterns.patterns.items c.new.result.items c.in_ok-types.ensures links template (c.in_ok-patterns.ensures ∙ ap (λ names. patterns_by names top) c.requires.names) c.new.ensures.items))
+    (sym (parts_are top c.in_ok-types.types.items c.in_ok-links.links.items c.in_ok-template.template c.in_ok-patterns.patterns.items c.new.result.items c.in_ok-types.ensures links template (c.in_ok-patterns.ensures ∙ ap (λ names. patterns_by names (map string_bytes c.deref-5.result.now) top) c.requires.names ∙ ap (λ components. patterns_by (type_names top) components top) components) c.new.ensures.items))
     (is_library top (judged_parts top c.requires.judged) few whole_edges patterns)
+
+pub returns-clause-library : goal.returns-clause-library
+returns-clause-library c =
+    let top = view c.args.top.now in
+    let types = c.deref.ensures.value ∙ c.in_ok-types.ensures in
+    let links = c.in_ok-links.ensures ∙ ap (λ names. links_by names top) c.requires.names in
+    let template = c.in_ok-template.ensures ∙ ap (λ rows. template_of rows c.deref-7.result.now) c.deref-6.ensures.value ∙ ap (template_of c.in_ok-types.types.items) c.deref-7.ensures.value in
+    let components = ap (map string_bytes) c.deref-5.ensures.value ∙ c.in_ok-components.ensures ∙ ap (flat_map names_of_type) (c.deref-4.ensures.value ∙ c.in_ok-types.ensures) ∙ same_names (rows_of Types top) in
+    c.new-2.ensures ∙ parts_are top c.in_ok-types.types.items c.in_ok-links.links.items c.in_ok-template.template c.in_ok-patterns.patterns.items c.new.result.items c.in_ok-types.ensures links template (c.in_ok-patterns.ensures ∙ ap (λ names. patterns_by names (map string_bytes c.deref-5.result.now) top) c.requires.names ∙ ap (λ components. patterns_by (type_names top) components top) components) c.new.ensures.items
