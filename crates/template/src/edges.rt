@@ -66,9 +66,9 @@ fn edges(alloc: Global, components: &[Component], links: &[LinkRow]) -> Result<V
 }
 
 /// The template of some types and links: types in order, then by index; links in order, then by
-/// tail, then by head.
+/// tail, then by head. Memory is also the answer where a type with instances comes after 2^32
+/// others: a component has no room for its number.
 pub fn expand(alloc: Global, types: &[TypeRow], links: &[LinkRow]) -> Result<Template, Memory>
-    requires rows { All IsTypeRow types.now }
     requires few_components { length (components_of types.now) ≤ COMPONENTS }
     ensures { IfOk result (λ t. t ≡ template_of types.now links.now) }
 {

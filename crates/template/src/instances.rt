@@ -1,21 +1,22 @@
 // The components of a library's types.
 ghost use Rattle.std.specs.Prelude.{◌≡◌, ◌≤◌, ◌<◌, ◌^◌, ◌++◌, ◌↔◌, IsTrue, IfOk, OnOk, length};
-ghost use Rattle.std.specs.List.{All};
-ghost use Rattle.arch_model.specs.Library.{IsTypeRow};
 ghost use Rattle.arch_model.specs.Template.{components_of, instances_of_type};
 
 use arch_model::limits::COMPONENTS;
 use arch_model::{Component, Memory, TypeRow};
-use std::alloc::Global;
+use std::alloc::{AllocError, Global};
 
-// Appends the instances of type number t.
-fn push_instances(components: &mut Vec<Component>, t: u32, row: &TypeRow) -> Result<(), Memory>
-    requires { row.now.max ≤ 64 }
+// Appends the instances of type number t. A number over u32's has no room in a component, so its
+// first instance is answered like memory that is wanting.
+fn push_instances(components: &mut Vec<Component>, t: usize, row: &TypeRow) -> Result<(), Memory>
     ensures { OnOk result (components.new.items ≡ components.old.items ++ instances_of_type t row.now) }
 {
     for i in 0..row.max {
+        if t > u32::MAX as usize {
+            return Err(AllocError);
+        }
         components.push(Component {
-            of: t,
+            of: t as u32,
             index: i + 1,
             role: row.role,
             cost: row.cost,
@@ -29,13 +30,11 @@ fn push_instances(components: &mut Vec<Component>, t: u32, row: &TypeRow) -> Res
 
 /// The components of some types: types in order, then by index.
 pub(crate) fn components(alloc: Global, types: &[TypeRow]) -> Result<Vec<Component>, Memory>
-    requires rows { All IsTypeRow types.now }
-    requires few_components { length (components_of types.now) ≤ COMPONENTS }
     ensures { IfOk result (λ v. v.items ≡ components_of types.now) }
 {
     let mut components = Vec::new(alloc);
     for (t, row) in types.iter().enumerate() {
-        push_instances(&mut components, t as u32, row)?;
+        push_instances(&mut components, t, row)?;
     }
     Ok(components)
 }

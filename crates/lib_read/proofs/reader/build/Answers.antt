@@ -54,11 +54,6 @@ pattern_rows-requires-clause-components c =
 pub pattern_rows-requires-clause-fit : goal.pattern_rows-requires-clause-fit
 pattern_rows-requires-clause-fit c = let top = view c.args.top.now in pattern_rows_fit top (judged_parts top c.requires.judged)
 
-pub expand-requires-clause-rows : goal.expand-requires-clause-rows
-expand-requires-clause-rows c =
-    let top = view c.args.top.now in
-    subst (All IsTypeRow) (sym (c.deref-6.ensures.value ∙ c.in_ok-types.ensures)) (types_fit top (judged_parts top c.requires.judged))
-
 pub new-requires-2 : goal.new-requires-2
 new-requires-2 c =
     let top = view c.args.top.now in

@@ -1,11 +1,7 @@
-use Rattle.std.proofs.Common.{◌++◌, take, arith, ◌∙◌, ap, sym}
+use Rattle.std.proofs.Common.{◌++◌, take, ◌∙◌, ap, sym}
 use Rattle.arch_model.specs.Template.{components_of, instances_of_type}
 use Rattle.template.proofs.Steps.{components_more}
-use Rattle.template.proofs.Numbers.{length-types-le}
 use Rattle.template.proofs.instances.components.Goals as goal
-
-pub overflow_cast-t : goal.overflow_cast-t
-overflow_cast-t c = omega (arith, length-types-le c.args.types.now c.requires.rows)
 
 pub loop-t-preserved : goal.loop-t-preserved
 loop-t-preserved c =
