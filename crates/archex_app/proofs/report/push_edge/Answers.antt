@@ -10,5 +10,5 @@ push_name-requires-2 c = rw c.edges.ensures.rows (edge_heads c.args.lib.now c.ed
 
 pub returns : goal.returns
 returns c =
-    five_pieces _ _ _ _ _ _ _ _ _ _ _ _ c.in_ok-push_str.ensures.bytes c.in_ok-push_name.ensures c.in_ok-push_str-2.ensures.bytes c.in_ok-push_name-2.ensures c.in_ok-push_str-3.ensures.bytes
+    five_pieces _ _ _ _ _ _ _ _ _ _ _ _ c.in_ok-push_str.ensures.bytes c.in_ok-push_name.ensures.bytes c.in_ok-push_str-2.ensures.bytes c.in_ok-push_name-2.ensures.bytes c.in_ok-push_str-3.ensures.bytes
     (edge_line_is c.args.lib.now c.args.edge.0 c.edges.result.now c.edges.ensures.rows c.requires)
