@@ -23,7 +23,7 @@ pub fn push_name(out: &mut String, lib: &Library, c: CompId) -> Result<(), Memor
     ensures bytes { OnOk result (string_bytes out.new ≡ string_bytes out.old ++ component_name lib.now c.0) }
     ensures kept { OnErr result (string_bytes out.new ≡ string_bytes out.old) }
 {
-    // The name is made apart first, since a text that is full part way would keep a part of it.
+    // The name is made apart first: no clause says what write! leaves where memory is wanting.
     let name = name_of(*out.allocator(), lib, c)?;
     out.push_str(&name)
 }
