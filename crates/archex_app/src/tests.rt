@@ -42,9 +42,7 @@ fn libraries_are_solved(rt: HostRuntime) -> Result<(), Fail> {
     let too_few = b"type = [{name = \"p\", role = \"source\", max = 2, cost = 3}]
 pattern = [{kind = \"count\", type = \"p\", min = 3}]
 ";
-    let most =
-        b"type = [{name = \"a\", role = \"source\", max = 32}, {name = \"b\", role = \"sink\", max = 32}]";
-    let rows: [(&[u8], Status, &[u8]); 4] = [
+    let rows: [(&[u8], Status, &[u8]); 3] = [
         (
             b"",
             Status::OPTIMAL,
@@ -52,22 +50,28 @@ pattern = [{kind = \"count\", type = \"p\", min = 3}]
         ),
         (X, Status::OPTIMAL, X_REPORT),
         (too_few, Status::INFEASIBLE, b"status infeasible\n"),
-        (
-            most,
-            Status::OPTIMAL,
-            b"status optimal\ncost 0\nkind,from,to\n",
-        ),
     ];
     for (library, status, text) in rows {
         let (ended, printed) = run_on(rt.alloc(), &["solve", "x.toml"], library, &[], &[])?;
         assert_eq!(rt; ended, status);
         assert_eq!(rt; printed.as_slice(), text);
     }
+    // as many components as there may be, which cost nothing: any of them may be printed
+    let most =
+        b"type = [{name = \"a\", role = \"source\", max = 32}, {name = \"b\", role = \"sink\", max = 32}]";
+    let (ended, printed) = run_on(rt.alloc(), &["solve", "x.toml"], most, &[], &[])?;
+    assert_eq!(rt; ended, Status::OPTIMAL);
+    assert!(rt;
+        printed
+            .as_slice()
+            .starts_with(b"status optimal\ncost 0\nkind,from,to\n")
+    );
     Ok(())
 }
 
-// Where several architectures are cheapest, any of them may be printed. No edge is forced here: one of two equal
-// sources; a source and a sink with a permitted link, none of them required; one instance each of three types.
+// Where several architectures are cheapest, any of them may be printed: one of two equal sources; a source and a sink
+// with a permitted link, none of them required, of which the sink is free; one instance each of three types, with no
+// edge forced; and a chain over one of two buses, a 2 + bus 1 + two edges of 1, for a sink that must be fed.
 #[test]
 fn one_of_the_cheapest_is_printed(rt: HostRuntime) -> Result<(), Fail> {
     let pair = b"type = [{name = \"p\", role = \"source\", max = 2, cost = 3}]
@@ -94,9 +98,29 @@ pattern = [
   {kind = \"count\", type = \"load\", min = 1},
 ]
 ";
-    let rows: [(&[u8], &[u8], &[&[u8]]); 3] = [
+    let fed = b"type = [
+  {name = \"a\", role = \"source\", cost = 2, supply = 3},
+  {name = \"b\", role = \"middle\", max = 2, cost = 1},
+  {name = \"c\", role = \"sink\", demand = 5},
+]
+link = [{from = \"a\", to = \"b\", cost = 1}, {from = \"b\", to = \"c\", cost = 1}]
+pattern = [
+  {kind = \"count\", type = \"c\", min = 1},
+  {kind = \"indegree\", type = \"c\", from = \"b\", min = 1},
+  {kind = \"indegree\", type = \"b\", from = \"a\", min = 1},
+]
+";
+    let rows: [(&[u8], &[u8], &[&[u8]]); 4] = [
         (pair, b"3", &[b"component,p.1,\n", b"component,p.2,\n"]),
-        (link, b"0", &[b""]),
+        (link, b"0", &[b"", b"component,t.1,\n"]),
+        (
+            fed,
+            b"5",
+            &[
+                b"component,a.1,\ncomponent,b.1,\ncomponent,c.1,\nedge,a.1,b.1\nedge,b.1,c.1\n",
+                b"component,a.1,\ncomponent,b.2,\ncomponent,c.1,\nedge,a.1,b.2\nedge,b.2,c.1\n",
+            ],
+        ),
         (
             chain,
             b"120",
@@ -163,7 +187,9 @@ link = [{from = \"a\", to = \"b\"}]",
             b"L10 TooMany library 0 type",
         ),
         (
-            b"require = [{sink = \"x.1\", bound = 0}]",
+            b"type = [{name = \"x\", role = \"middle\", cost = 7}]
+pattern = [{kind = \"count\", type = \"x\", min = 1}]
+require = [{sink = \"x.1\", bound = 0}]",
             b"L3 UnknownKey library 0 require",
         ),
         (
