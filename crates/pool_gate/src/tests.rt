@@ -98,6 +98,19 @@ fn raise_once<R: Wait>(rt: &R, gate: &Gate<Tally>, seat: GateSeat<Tally>) -> Gat
     }
 }
 
+// A hundred turns, one after another, each of which raises the count.
+fn raise_often<R: Wait>(rt: &R, gate: &Gate<Tally>, seat: GateSeat<Tally>) -> GateSeat<Tally>
+    requires { (seat.gate ≡ gate.now) × (seat.view.in_turn ≡ false) }
+    ensures { (result.gate ≡ gate.now) × (result.view.in_turn ≡ false) × (result.view.number ≡ seat.view.number)
+        × (result.view.away ≡ seat.view.away) × (result.view.about ≡ seat.view.about) }
+{
+    let mut seat = seat;
+    for _ in 0..100 {
+        seat = raise_once(rt, gate, seat);
+    }
+    seat
+}
+
 fn two_threads<R: Threads + Wait + Sync>(rt: &R, alloc: Global) -> Option<u64> {
     let opening = Tally { topic: 7, total: 0 };
     let Ok((gate, mut first)) = open_gate(alloc, opening, 2) else {
@@ -107,8 +120,8 @@ fn two_threads<R: Threads + Wait + Sync>(rt: &R, alloc: Global) -> Option<u64> {
     let shared = &gate;
     let (mut first, second) = thread::join(
         rt,
-        move || { raise_once(rt, shared, first) },
-        move || { raise_once(rt, shared, second) },
+        move || { raise_often(rt, shared, first) },
+        move || { raise_often(rt, shared, second) },
     );
     gate.join(&mut first, second);
     let last = gate.close(first);
@@ -117,5 +130,5 @@ fn two_threads<R: Threads + Wait + Sync>(rt: &R, alloc: Global) -> Option<u64> {
 
 #[test]
 fn two_seats_take_turns_on_two_threads(rt: HostRuntime) {
-    assert!(rt; two_threads(&rt, rt.alloc()) == Some(2));
+    assert!(rt; two_threads(&rt, rt.alloc()) == Some(200));
 }
