@@ -1,5 +1,6 @@
 // The names of components, as a document's types give them.
-ghost use Rattle.std.specs.Prelude.{codes, [], slice_index, unwrap_or, ◌≡◌, ◌≢◌, ℕ, ◌<◌, ◌≤◌, ◌^◌, ◌++◌, map, position, length, string_bytes, IfOk, IfSome, IfNone, OnOk};
+ghost use Rattle.std.specs.Prelude.{codes, [], slice_index, unwrap_or, ◌≡◌, ◌≢◌, ℕ, ◌<◌, ◌≤◌, ◌^◌, ◌++◌, map};
+ghost use Rattle.std.specs.Prelude.{position, length, string_bytes, IfOk, IfSome, IfNone, OnOk};
 ghost use Rattle.std.specs.Fmt.{decimal};
 ghost use Rattle.std.specs.List.{flat_map};
 ghost use Rattle.std.specs.Str.{bytes_eq};

@@ -105,7 +105,8 @@ pub(crate) fn row_fault<'a>(
     names: &Names,
     top: &Value,
 ) -> Option<Fault<'a>>
-    ensures { option_map fault_view result ≡ least (faults.row_faults (view top.now) names.now class table position (view row.now)) }
+    ensures { option_map fault_view result
+        ≡ least (faults.row_faults (view top.now) names.now class table position (view row.now)) }
 {
     match row_key(class, table_keys(table, row), row, names, top) {
         Some(key) => Some(Fault {

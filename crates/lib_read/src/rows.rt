@@ -205,7 +205,8 @@ pub(crate) fn pattern_rows(
     requires names { length names.now ≤ 64 }
     requires components { length components.now ≤ 64 }
     requires fit { All rows.PatternFits (tree.rows_of TableName.Patterns (view top.now)) }
-    ensures { IfOk result (λ patterns. patterns.items ≡ rows.patterns_by names.now (map string_bytes components.now) (view top.now)) }
+    ensures { IfOk result
+        (λ patterns. patterns.items ≡ rows.patterns_by names.now (map string_bytes components.now) (view top.now)) }
 {
     let mut patterns = Vec::new(alloc);
     let rows = rows_of(top, TableName::Patterns);

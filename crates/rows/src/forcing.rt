@@ -114,7 +114,8 @@ pub fn forces_of_cost(lib: &Library, bound: u64, cube: &Cube) -> Option<(VarId, 
 }
 
 /// The least variable that a row forces in a cube, and the value to which; None where the row is refuted or forces
-/// nothing. A row forces a free variable to a value where it isn't refuted, but is once the variable has the other value.
+/// nothing. A row forces a free variable to a value where it isn't refuted, but is once the variable has the other
+/// value.
 pub fn forces(known: &Known, r: RowRef, cube: &Cube) -> Option<(VarId, bool)>
     requires { IsTrue (has_row (parts_of known.now) r) }
     ensures { IfSome (row_at (parts_of known.now) r) (λ row. option_map number_of result ≡ least_forced row cube.now) }

@@ -1,5 +1,6 @@
 // Which rows are known, how great their sums can get in a cube, and which are refuted.
-ghost use Rattle.std.specs.Prelude.{◌≡◌, ℕ, ◌+◌, ◌*◌, ◌≤◌, ◌^◌, ◌<◌, pos, neg_ℤ, ◌-ℤ◌, IfSome, IsTrue, unsigned_abs, ◌↔◌, if◌then◌else◌, sum_by};
+ghost use Rattle.std.specs.Prelude.{◌≡◌, ℕ, ◌+◌, ◌*◌, ◌≤◌, ◌^◌, ◌<◌, pos, neg_ℤ, ◌-ℤ◌, IfSome, IsTrue, unsigned_abs};
+ghost use Rattle.std.specs.Prelude.{◌↔◌, if◌then◌else◌, sum_by};
 ghost use Rattle.std.specs.List.{enumerate_from};
 ghost use Rattle.rows.specs.Row.{IsRow, IsSized, row_of_cut};
 ghost use Rattle.rows.specs.Cube.{IsCube, value_at};

@@ -66,7 +66,8 @@ fn combined_coef(known: &Known, reason: &Reason, v: VarId) -> i128
     requires there { AllThere (parts_of known.now) reason.now }
     requires variable { v.0 < variables (parts_of known.now) }
     requires small { v.0 < MEMBERS }
-    ensures value { result ≡ coef_at (flat_map (λ p. terms_times p.times (row_of_pair (parts_of known.now) p)) reason.now) v.0 }
+    ensures value { result
+        ≡ coef_at (flat_map (λ p. terms_times p.times (row_of_pair (parts_of known.now) p)) reason.now) v.0 }
     ensures small { unsigned_abs result ≤ 64 * 10 ^ 28 }
 {
     let mut total: i128 = 0;
