@@ -35,7 +35,7 @@ pub record ShowsRefusal (bytes text : List ℕ) : Type 0 where
 abbrev pub ShowsAnswer : List ℕ → List ℕ → Type 0
 ShowsAnswer bytes text = ShowsCheapest bytes text ⊎ (ShowsInfeasible bytes text ⊎ ShowsRefusal bytes text)
 
--- the text that is due shows a fact of the bytes of the library that the words name: those that the shelf tells, or where it tells none, some that were read
+-- the text that is due shows a fact of the bytes of the library that the words name: those that the shelf tells, or where it tells none, some bytes, of which nothing more is said
 pub record IsDue (Shows : List ℕ → List ℕ → Type 0) (words : List (List ℕ)) (told : List ℕ → Option (List ℕ)) (text : List ℕ) : Type 0 where
   pub name : List ℕ
   pub asked : AskToSolve words name
