@@ -126,6 +126,10 @@ fn faulty_files_are_refused(rt: HostRuntime) -> Result<(), Fail> {
         // no TOML
         ("type = [", "NotToml Library 0 -"),
         ("a = 1\na = 2", "NotToml Library 0 -"),
+        (
+            r#"type = [{name = "a", role = "sink", cost = 9223372036854775808}]"#,
+            "NotToml Library 0 -",
+        ),
         // keys and kinds
         ("zz = 1", "UnknownKey Library 0 zz"),
         ("zz = 1\nab.c = 1\nzzz = 1", "UnknownKey Library 0 ab"),
@@ -157,6 +161,10 @@ fn faulty_files_are_refused(rt: HostRuntime) -> Result<(), Fail> {
         (
             r#"type = [{name = 1, role = "sink"}]"#,
             "WrongKind Types 1 name",
+        ),
+        (
+            r#"type = [{name = "a", role = "sink", cost = 1979-05-27}]"#,
+            "WrongKind Types 1 cost",
         ),
         // names
         (
