@@ -10,3 +10,4 @@ pub mod ForcedTurns
 pub mod QuietRows
 pub mod EmptyProblem
 pub mod Combinations
+pub mod Collected

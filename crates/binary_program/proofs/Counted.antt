@@ -1,0 +1,1 @@
+-- Sums over variables with coefficients 1 and -1, and what they count.

@@ -1,0 +1,4 @@
+pub mod Counted
+pub mod CountKinds
+pub mod SumKinds
+pub mod Deciding

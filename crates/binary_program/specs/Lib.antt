@@ -1,0 +1,2 @@
+pub mod CubeOf
+pub mod Says
