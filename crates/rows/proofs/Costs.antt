@@ -27,7 +27,7 @@ costs_small lib h =
     All-append (λ n. n ≤ 10 ^ 12) (map (λ (c : Component). c.cost) lib.components) (map (λ (e : Edge). e.cost) lib.edges)
     (All-map (λ n. n ≤ 10 ^ 12) (λ (c : Component). c.cost) lib.components (component_costs lib h)) (All-map (λ n. n ≤ 10 ^ 12) (λ (e : Edge). e.cost) lib.edges (edge_costs lib h))
 
-length-costs_of : (lib : LibraryParts) → length (costs_of lib) ≡ member_count lib
+pub length-costs_of : (lib : LibraryParts) → length (costs_of lib) ≡ member_count lib
 length-costs_of lib = grind (arith, length-append {A = ℕ}, length-map lib.components (λ (c : Component). c.cost), length-map lib.edges (λ (e : Edge). e.cost))
 
 pub member_cost_small : (lib : LibraryParts) → IsLibrary lib → (v : ℕ) → v < member_count lib → member_cost_of lib v ≤ 10 ^ 12

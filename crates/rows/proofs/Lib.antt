@@ -11,3 +11,9 @@ pub mod QuietRows
 pub mod EmptyProblem
 pub mod Combinations
 pub mod Collected
+pub mod AllParts
+pub mod EdgeRows
+pub mod CubeLaws
+pub mod Chosen
+pub mod VectorLaws
+pub mod LeastForced

@@ -45,10 +45,10 @@ or_none : (b : Bool) → (b || false) ≡ b
 or_none true = refl
 or_none false = refl
 
-has-put_other : (s : Set) (v w : ℕ) → (v ≡ w → ⊥) → has (put s v) w ≡ has s w
+pub has-put_other : (s : Set) (v w : ℕ) → (v ≡ w → ⊥) → has (put s v) w ≡ has s w
 has-put_other s v w ne = has-put s v w ∙ ap (λ b. has s w || b) (unlike v w ne) ∙ or_none (has s w)
 
-ones_other : (cube : CubeParts) (v w : ℕ) (b : Bool) → (v ≡ w → ⊥) → has (if b then put cube.ones v else cube.ones) w ≡ has cube.ones w
+pub ones_other : (cube : CubeParts) (v w : ℕ) (b : Bool) → (v ≡ w → ⊥) → has (if b then put cube.ones v else cube.ones) w ≡ has cube.ones w
 ones_other cube v w true ne = has-put_other cube.ones v w ne
 ones_other cube v w false ne = refl
 
@@ -68,7 +68,7 @@ not_one : (f o : Bool) → f ≡ false → (o ≡ true → f ≡ true) → o ≡
 not_one f true e within = absurd (let g : false ≡ true = sym e ∙ within refl in cc)
 not_one f false e within = refl
 
-ones_same : (cube : CubeParts) (v : ℕ) (b : Bool) → IsCube cube → is_free cube v ≡ true → has (if b then put cube.ones v else cube.ones) v ≡ b
+pub ones_same : (cube : CubeParts) (v : ℕ) (b : Bool) → IsCube cube → is_free cube v ≡ true → has (if b then put cube.ones v else cube.ones) v ≡ b
 ones_same cube v true k free = has-put_same cube.ones v
 ones_same cube v false k free = not_one (has cube.fixed v) (has cube.ones v) (free_fixed (has cube.fixed v) free) (k.within v)
 
@@ -81,7 +81,7 @@ value_free : (cube : CubeParts) (v : ℕ) → is_free cube v ≡ true → value_
 value_free cube v free = ap (λ f. if f then Some (has cube.ones v) else None) (free_fixed (has cube.fixed v) free)
 
 -- terms after a variable have no coefficient there, and their activity doesn't change with it
-coef_after : (terms : List Term) (v : ℕ) → After v terms → coef_at terms v ≡ pos 0
+pub coef_after : (terms : List Term) (v : ℕ) → After v terms → coef_at terms v ≡ pos 0
 coef_after [] v h = refl
 coef_after (t ∷ terms) v h =
     let ne : t.var.0 ≡ v → ⊥ = λ e. absurd (omega (arith, h.0, e)) in
@@ -117,7 +117,7 @@ after_at t terms v e h = let family : ℕ → Type 0 = λ n. After n terms in su
 pub coef_head : (t : Term) (terms : List Term) (v : ℕ) → t.var.0 ≡ v → After v terms → coef_at (t ∷ terms) v ≡ t.coef
 coef_head t terms v e h = ap (λ b. (if b then t.coef else pos 0) +ℤ coef_at terms v) (eq-eqb t.var.0 v e) ∙ ap (λ z. t.coef +ℤ z) (coef_after terms v h) ∙ +ℤ_idr t.coef
 
-coef_tail : (t : Term) (terms : List Term) (v : ℕ) → (t.var.0 ≡ v → ⊥) → coef_at (t ∷ terms) v ≡ coef_at terms v
+pub coef_tail : (t : Term) (terms : List Term) (v : ℕ) → (t.var.0 ≡ v → ⊥) → coef_at (t ∷ terms) v ≡ coef_at terms v
 coef_tail t terms v ne = ap (λ b. (if b then t.coef else pos 0) +ℤ coef_at terms v) (unlike t.var.0 v ne) ∙ +ℤ_idl _
 
 pub activity_fixed : (terms : List Term) (cube : CubeParts) (v : ℕ) (b : Bool) → Rising terms → IsCube cube → is_free cube v ≡ true
@@ -160,7 +160,7 @@ zero_test g l (negsuc n) after above e =
     let f : after +ℤ pos 0 ≡ g +ℤ negsuc n = e in
     test_same after l (g -ℤ l) (pos (suc n)) (λ h. omega (arith, ints)) (λ h. omega (arith, ints))
 
-above_least : (g l : ℤ) → int_lt g l ≡ false → l ≤ℤ g
+pub above_least : (g l : ℤ) → int_lt g l ≡ false → l ≤ℤ g
 above_least g l h = grind (arith, ints)
 
 -- a row that isn't refuted forces a free variable to 1 where its coefficient is above the room, and to 0 where minus its coefficient is

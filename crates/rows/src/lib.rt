@@ -19,6 +19,7 @@ mod cut;
 mod forcing;
 mod judge;
 mod known;
+pub mod laws;
 mod problem;
 mod quiet_cubes;
 mod row;

@@ -1,0 +1,51 @@
+//! Laws of rows, cubes and forcing, each the contract of a function without a body.
+ghost use Rattle.std.specs.Prelude.{◌≡◌, ◌↔◌, ℕ, ◌<◌, Bool, false, Some};
+ghost use Rattle.std.specs.List.{All};
+ghost use Rattle.arch_model.specs.Set.{has};
+ghost use Rattle.arch_model.specs.Parts.{LibraryParts, ArchitectureParts};
+ghost use Rattle.arch_model.specs.Library.{IsLibrary};
+ghost use Rattle.arch_model.specs.Architecture.{IsArchitecture, cost_of};
+ghost use Rattle.rows.specs.Parts.{RowParts, CubeParts};
+ghost use Rattle.rows.specs.Row.{RowHolds, IsRow, IsRowBelow};
+ghost use Rattle.rows.specs.Cube.{IsCube, LiesIn, IsFull};
+ghost use Rattle.rows.specs.Activity.{IsRefuted, is_refuted, Forces, least_forced, IsLeastForced};
+ghost use Rattle.rows.specs.BaseRows.{edge_rows, cost_row_of};
+ghost use Rattle.rows.specs.Problem.{IsVectorOf};
+
+/// A vector that meets a row lies in no cube where the row is refuted.
+pub fn refuted_rows_hold_nowhere()
+    ensures { (row : RowParts) (cube : CubeParts) (x : ℕ → Bool) → LiesIn x cube → RowHolds row x
+        → IsRefuted row cube → ⊥ }
+{}
+
+/// A forced variable has its value in each vector of the cube that meets the row.
+pub fn forced_values_are_kept()
+    ensures { (row : RowParts) (cube : CubeParts) (v : ℕ) (b : Bool) (x : ℕ → Bool) → IsCube cube
+        → Forces row cube v b → LiesIn x cube → RowHolds row x → x v ≡ b }
+{}
+
+/// The least forced variable is the least of all that the row forces, with the value to which it is forced.
+pub fn the_least_is_forced()
+    ensures { (row : RowParts) (cube : CubeParts) → IsRow row → IsCube cube → (v : ℕ) (b : Bool)
+        → (least_forced row cube ≡ Some (v, b)) ↔ IsLeastForced row cube v b }
+{}
+
+/// Where nothing is free, a row is refuted exactly where the one vector of the cube doesn't meet it.
+pub fn full_cubes_are_vectors()
+    ensures { (n : ℕ) (row : RowParts) (cube : CubeParts) → IsRowBelow n row → IsFull n cube
+        → (is_refuted row cube ≡ false) ↔ RowHolds row (has cube.ones) }
+{}
+
+/// The edges' rows ask for each present edge's ends: a vector meets all of them exactly where it is that of an
+/// architecture.
+pub fn edge_rows_ask_for_ends()
+    ensures { (lib : LibraryParts) (x : ℕ → Bool) → IsLibrary lib
+        → All (λ row. RowHolds row x) (edge_rows lib)
+        ↔ ((arch : ArchitectureParts) × IsVectorOf lib arch x × IsArchitecture lib arch) }
+{}
+
+/// The cost row for a bound says that the cost is below it.
+pub fn the_cost_row_bounds_the_cost()
+    ensures { (lib : LibraryParts) (arch : ArchitectureParts) (x : ℕ → Bool) → IsVectorOf lib arch x → (u : ℕ)
+        → RowHolds (cost_row_of lib u) x ↔ (cost_of lib arch < u) }
+{}
