@@ -35,7 +35,7 @@ two_to false true h on = absurd (omega (arith, ints))
 two_to false false h on = on
 
 -- the two rows of edge e, as they stand
-abbrev rows_of_edge : LibraryParts → ℕ × Edge → List RowParts
+abbrev pub rows_of_edge : LibraryParts → ℕ × Edge → List RowParts
 rows_of_edge lib p = member_row lib (plus p.1.tail.0 ∷ minus p.0 ∷ []) (pos 0) ∷ member_row lib (plus p.1.head.0 ∷ minus p.0 ∷ []) (pos 0) ∷ []
 
 module _ (lib : LibraryParts) (right : IsLibrary lib) (x : ℕ → Bool) where
