@@ -44,11 +44,11 @@ value_at_most (t ∷ terms) cube x least lies =
 pub holds_nowhere : (row : RowParts) (cube : CubeParts) (x : ℕ → Bool) → LiesIn x cube → RowHolds row x → IsRefuted row cube → ⊥
 holds_nowhere row cube x lies holds refuted = let most = value_at_most row.terms cube x row.least lies in omega (arith, ints)
 
-is_refuted_when : (row : RowParts) (cube : CubeParts) → is_refuted row cube ≡ true → IsRefuted row cube
+pub is_refuted_when : (row : RowParts) (cube : CubeParts) → is_refuted row cube ≡ true → IsRefuted row cube
 is_refuted_when row cube h = grind (arith, ints)
 
 -- a vector of the cube with the other value lies in the cube with that value fixed
-lies_fixed : (cube : CubeParts) (x : ℕ → Bool) (v : ℕ) (b : Bool) → IsCube cube → is_free cube v ≡ true → LiesIn x cube → x v ≡ b → LiesIn x (fixed_at cube v b)
+pub lies_fixed : (cube : CubeParts) (x : ℕ → Bool) (v : ℕ) (b : Bool) → IsCube cube → is_free cube v ≡ true → LiesIn x cube → x v ≡ b → LiesIn x (fixed_at cube v b)
 lies_fixed cube x v b ok free lies at w on = elim (eqb_tells v w) [
   | inl same ↦ ap x (sym same.1) ∙ at ∙ sym (ones_same cube v b ok free) ∙ ap (has (if b then put cube.ones v else cube.ones)) same.1
   | inr other ↦ lies w (sym (has-put_other cube.fixed v w other.1) ∙ on) ∙ sym (ones_other cube v w b other.1)

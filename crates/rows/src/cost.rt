@@ -14,6 +14,7 @@ use arch_model::{Library, VarId};
 pub fn variable_count(lib: &Library) -> u32
     ensures count { result ≡ member_count lib.now }
     ensures few { result ≤ MEMBERS }
+    ensures library { IsLibrary lib.now }
 {
     (lib.components().len() + lib.edges().len()) as u32
 }

@@ -70,7 +70,8 @@ impl Cube {
     pub fn fix(&mut self, v: VarId, value: bool)
         requires free { is_free self.old v.0 ≡ true }
         requires small { v.0 < MEMBERS }
-        ensures { self.new ≡ fixed_at self.old v.0 value }
+        ensures fixed { self.new ≡ fixed_at self.old v.0 value }
+        ensures cube { IsCube self.old }
     {
         self.fixed.put(v);
         if value {
