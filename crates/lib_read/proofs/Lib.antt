@@ -10,3 +10,4 @@ pub mod CleanRows
 pub mod CleanLibrary
 pub mod ReadLemmas
 pub mod WorkedRows
+pub mod Unrequired
