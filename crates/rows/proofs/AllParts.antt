@@ -1,5 +1,5 @@
 -- What holds of each item of lists that were put together.
-use Rattle.std.proofs.Common.{◌≡◌, ℕ, zero, suc, ◌+◌, List, [], ◌∷◌, ◌++◌, Option, Some, None, refl, subst, arith}
+use Rattle.std.proofs.Common.{◌≡◌, ℕ, zero, suc, ◌+◌, List, [], ◌∷◌, ◌++◌, Some, None, refl, subst, arith}
 use Rattle.std.specs.List.{AllByRecursion, flat_map, enumerate_from, slice_get}
 
 pub all_left : {X : Type 0} (P : X → Type 0) (xs ys : List X) → AllByRecursion P (xs ++ ys) → AllByRecursion P xs
@@ -40,8 +40,7 @@ all_numbered {X = X} P b (y ∷ xs) all (suc i) x is =
 pub numbered_all : {X : Type 0} (P : ℕ × X → Type 0) (b : ℕ) (xs : List X) → ((i : ℕ) (x : X) → slice_get xs i ≡ Some x → P (b + i, x)) → AllByRecursion P (enumerate_from b xs)
 numbered_all P b [] each = tt
 numbered_all {X = X} P b (y ∷ xs) each =
-    let here : b + 0 ≡ b = omega arith in
-    (
+    let here : b + 0 ≡ b = omega arith in (
       subst (λ (n : ℕ). P (n, y)) here (each 0 y refl),
       numbered_all P (b + 1) xs (λ i x is. let further : b + suc i ≡ (b + 1) + i = omega arith in subst (λ (n : ℕ). P (n, x)) further (each (suc i) x is)),
     )

@@ -1,7 +1,7 @@
 -- Vectors of architectures: the edges' rows, and the cost.
-use Rattle.std.proofs.Common.{◌≡◌, ℕ, zero, suc, ◌+◌, ◌-◌, ◌<◌, ◌≤◌, ℤ, pos, neg_ℤ, ◌-ℤ◌, ◌≤ℤ◌, Bool, true, List, [], ◌∷◌, ◌++◌, map, length, Some, refl, sym, ap, subst, ◌∙◌, arith, cond, zero-add}
+use Rattle.std.proofs.Common.{◌≡◌, ℕ, ◌+◌, ◌-◌, ◌<◌, ◌≤◌, ℤ, pos, neg_ℤ, ◌-ℤ◌, ◌≤ℤ◌, Bool, List, [], ◌∷◌, map, length, refl, sym, ap, subst, ◌∙◌, arith, cond, zero-add}
 use Rattle.std.specs.Prelude.{◌↔◌}
-use Rattle.std.specs.List.{All, AllByRecursion, enumerate_from, slice_get, sum_by}
+use Rattle.std.specs.List.{All, AllByRecursion, enumerate_from, sum_by}
 use Rattle.std.proofs.lemmas.Int.{ints}
 use Rattle.std.proofs.lemmas.Bool.{lt-ltb, le-ltb}
 use Rattle.std.proofs.lemmas.Option.{slice_get_within}
@@ -14,9 +14,8 @@ use Rattle.arch_model.specs.Set.{has}
 use Rattle.arch_model.specs.Parts.{LibraryParts, ArchitectureParts}
 use Rattle.arch_model.specs.Library.{IsLibrary}
 use Rattle.arch_model.specs.Architecture.{IsArchitecture, cost_of, present}
-use Rattle.arch_model.specs.Member.{member_count, is_present, KeepsEnds}
+use Rattle.arch_model.specs.Member.{member_count, KeepsEnds}
 use Rattle.arch_model.proofs.Vectors.{keeps_ends, from_ends}
-use Rattle.rows.specs.declared.row.Term.{Term}
 use Rattle.rows.specs.Parts.{RowParts}
 use Rattle.rows.specs.Row.{term, value_of, RowHolds}
 use Rattle.rows.specs.BaseRows.{costs_of, cost_terms, cost_row_of, edge_rows}
@@ -115,7 +114,7 @@ vector_keeps_ends lib arch x right vector fits =
 pub edge_rows_say : (lib : LibraryParts) (x : ℕ → Bool) → IsLibrary lib → All (λ row. RowHolds row x) (edge_rows lib) ↔ ((arch : ArchitectureParts) × IsVectorOf lib arch x × IsArchitecture lib arch)
 edge_rows_say lib x right = (
   (λ all.
-  let built = from_ends lib right x (ends_from_rows lib right x (recursion_from_All (λ (row : RowParts). RowHolds row x) (edge_rows lib) all)) in
-  (built.0, (λ v short. sym (built.2 v short)), built.1)),
+      let built = from_ends lib right x (ends_from_rows lib right x (recursion_from_All (λ (row : RowParts). RowHolds row x) (edge_rows lib) all)) in
+      (built.0, (λ v short. sym (built.2 v short)), built.1)),
   (λ some. All-from_recursion (λ (row : RowParts). RowHolds row x) (edge_rows lib) (rows_from_ends lib right x (vector_keeps_ends lib some.0 x right some.1 some.2))),
 )
