@@ -1,5 +1,5 @@
 -- The faults of a document stand at positions of 32 bits.
-use Rattle.std.proofs.Common.{◌≡◌, codes, ℕ, ◌+◌, ◌-◌, ◌*◌, ◌^◌, ◌<◌, ◌≤◌, Bool, true, false, cond, nat_lt, List, [], ◌∷◌, ◌++◌, take, length, Option, Some, None, option_map, IfSome, sym, subst, arith}
+use Rattle.std.proofs.Common.{◌≡◌, codes, ℕ, ◌+◌, ◌-◌, ◌*◌, ◌^◌, ◌<◌, ◌≤◌, Bool, true, false, cond, nat_lt, List, [], ◌∷◌, ◌++◌, take, length, Option, Some, None, option_map, IfSome, subst, arith}
 use Rattle.std.specs.Str.{is_utf8, bytes_eq}
 use Rattle.std.specs.List.{AllByRecursion, enumerate_from}
 use Rattle.toml.specs.Data.{Data, Members, table}
@@ -20,14 +20,16 @@ use Rattle.lib_read.proofs.LeastLemmas.{all_both, least_keeps}
 use Rattle.lib_read.proofs.ListFacts.{all_flat, all_of_map}
 use Rattle.lib_read.proofs.RowLemmas.{FewAtKeys, document_few}
 
+-- numbers from n on of some items
 numbered : {X : Type 0} (n m : ℕ) (xs : List X) → n + length xs ≤ m + 1 → AllByRecursion (λ (p : ℕ × X). p.0 ≤ m) (enumerate_from n xs)
 numbered n m [] h = tt
 numbered n m (x ∷ xs) h = (omega arith, numbered (n + 1) m xs (omega arith))
 
--- no fault stands past the rows of its table
+-- a position of at most n
 abbrev Within : ℕ → LibFault → Type 0
 Within n f = f.position ≤ n
 
+-- no fault stands past the rows of its table
 module _ (n : ℕ) (top : Data) (few : (t : TableName) → length (rows_of t top) ≤ n) where
   row_within : (names : List (List ℕ)) (c : LibClass) (t : TableName) (k : ℕ) (row : Data) → k ≤ n → AllByRecursion (Within n) (row_faults top names c t k row)
   row_within names c t k row h = all_of_map (Within n) (fault c t k) (λ key. h) (faulty_keys top names c (table_keys t row) row)
@@ -80,7 +82,7 @@ module _ (n : ℕ) (top : Data) (few : (t : TableName) → length (rows_of t top
       (all_both (Within n) (class_faults (type_names top) UnknownName top) (class_faults (type_names top) Range top) (class_within (type_names top) UnknownName) (class_within (type_names top) Range)))))
       limit_within
 
--- no table of bytes has more than twice as many rows as there are bytes, and one
+-- no table of a file has more rows than twice its bytes, and one
 tree_few : (bytes : List ℕ) → IfSome (tree_of bytes) (λ top. (t : TableName) → length (rows_of t top) ≤ 2 * length bytes + 1)
 unfolding tree_of
 tree_few bytes = read (is_utf8 bytes) (parse_document bytes) (document_few bytes)
@@ -90,7 +92,7 @@ tree_few bytes = read (is_utf8 bytes) (parse_document bytes) (document_few bytes
     read true None h = tt
     read false o h = tt
 
--- a fault of bytes that aren't too many has a position of 32 bits
+-- the first fault of a document that isn't too large has a position of 32 bits
 pub position_fits : (bytes : List ℕ) (top : Data) (f : LibFault) → length bytes ≤ 1048576 → tree_of bytes ≡ Some top → Some f ≡ least (faults_of top) → f.position < 2 ^ 32
 position_fits bytes top f few tree found =
     let rows = subst (λ o. IfSome o (λ d. (t : TableName) → length (rows_of t d) ≤ 2 * length bytes + 1)) tree (tree_few bytes) in

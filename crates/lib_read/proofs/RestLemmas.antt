@@ -1,45 +1,47 @@
 -- What is left of a TOML text, where a piece of it was read, is no longer than the text.
-use Rattle.std.proofs.Common.{◌≡◌, ℕ, zero, suc, ◌≤◌, Bool, true, false, cond, List, [], ◌∷◌, ◌++◌, length, drop, Option, Some, None, is_some, unwrap_or, option_map, IfSome, arith, length-drop}
+use Rattle.std.proofs.Common.{ℕ, zero, suc, ◌≤◌, Bool, true, false, cond, List, [], ◌∷◌, length, drop, Option, Some, None, is_some, unwrap_or, option_map, IfSome, arith, length-drop}
 use Rattle.std.specs.Option.{option_and_then}
-use Rattle.toml_parser.specs.Lexical.{Read, first, split_while, skip_ws, skip_turn, skip_from, skip_blank, skip_lines, is_bare}
 use Rattle.toml_parser.specs.declared.scalar.Scalar.{Scalar}
+use Rattle.toml_parser.specs.Lexical.{Read, first, skip_ws, skip_turn, skip_from}
+use Rattle.toml_parser.specs.Strings.{hex_escape, escape_char, escape, special, at_delims, after_piece, body, trim_newline, one_line, quoted, simple_key, key_after, key}
 use Rattle.toml_parser.specs.Numbers.{unquoted}
 use Rattle.toml.specs.Data.{Data, Items}
 use Rattle.toml.specs.Tables.{Nodes}
-use Rattle.toml.specs.Parse.{after_element, key_equals, keyval, items, members, atom, val, header_key, expression, line, lines, skip_bom}
-use Rattle.toml_parser.specs.Strings.{Key, simple_escape, hex_escape, escape_char, escape, special, at_delims, prepend, after_piece, body, trim_newline, one_line, quoted, simple_key, key_after, key}
+use Rattle.toml.specs.Parse.{after_element, key_equals, keyval, items, members, atom, val, header_key, expression, line, skip_bom}
 
 -- at most m bytes are left where something was read
 pub record Leaves {A : Type 0} (m : ℕ) (r : Read A) : Type 0 where
   pub rest : IfSome r (λ p. length p.1 ≤ m)
 
-pub leaves_none : {A : Type 0} (m : ℕ) → Leaves {A = A} m None
+-- a reading that is put together from others leaves no more than they do
+leaves_none : {A : Type 0} (m : ℕ) → Leaves {A = A} m None
 leaves_none m = record { rest = tt }
 
-pub leaves_some : {A : Type 0} (m : ℕ) (a : A) (text : List ℕ) → length text ≤ m → Leaves m (Some (a, text))
+leaves_some : {A : Type 0} (m : ℕ) (a : A) (text : List ℕ) → length text ≤ m → Leaves m (Some (a, text))
 leaves_some m a text h = record { rest = h }
 
-pub leaves_chosen : {A : Type 0} (m : ℕ) (b : Bool) (x y : Read A) → Leaves m x → Leaves m y → Leaves m (cond b x y)
+leaves_chosen : {A : Type 0} (m : ℕ) (b : Bool) (x y : Read A) → Leaves m x → Leaves m y → Leaves m (cond b x y)
 leaves_chosen m true x y h k = h
 leaves_chosen m false x y h k = k
 
-pub leaves_mapped : {A B : Type 0} (m : ℕ) (f : A × List ℕ → B) (r : Read A) → Leaves m r → Leaves m (option_map (λ p. (f p, p.1)) r)
+leaves_mapped : {A B : Type 0} (m : ℕ) (f : A × List ℕ → B) (r : Read A) → Leaves m r → Leaves m (option_map (λ p. (f p, p.1)) r)
 leaves_mapped m f None h = leaves_none m
 leaves_mapped m f (Some p) h = leaves_some m (f p) p.1 h.rest
 
-pub leaves_then : {A B : Type 0} (m : ℕ) (f : A × List ℕ → Read B) (r : Read A) → Leaves m r → ((p : A × List ℕ) → length p.1 ≤ m → Leaves m (f p)) → Leaves m (option_and_then f r)
+leaves_then : {A B : Type 0} (m : ℕ) (f : A × List ℕ → Read B) (r : Read A) → Leaves m r → ((p : A × List ℕ) → length p.1 ≤ m → Leaves m (f p)) → Leaves m (option_and_then f r)
 leaves_then m f None h each = leaves_none m
 leaves_then m f (Some p) h each = each p h.rest
 
-pub dropped : (k : ℕ) (text : List ℕ) (m : ℕ) → length text ≤ m → length (drop k text) ≤ m
+-- what is left of a text after some bytes is no longer, nor is one of two texts that aren't
+dropped : (k : ℕ) (text : List ℕ) (m : ℕ) → length text ≤ m → length (drop k text) ≤ m
 dropped k text m h = omega (arith, length-drop k text)
 
-pub chosen : (b : Bool) (xs ys : List ℕ) (m : ℕ) → length xs ≤ m → length ys ≤ m → length (cond b xs ys) ≤ m
+chosen : (b : Bool) (xs ys : List ℕ) (m : ℕ) → length xs ≤ m → length ys ≤ m → length (cond b xs ys) ≤ m
 chosen true xs ys m x y = x
 chosen false xs ys m x y = y
 
--- white space, newlines and comments
-pub skip_ws_rest : (text : List ℕ) (m : ℕ) → length text ≤ m → length (skip_ws text) ≤ m
+-- after white space, newlines and comments no more is left
+skip_ws_rest : (text : List ℕ) (m : ℕ) → length text ≤ m → length (skip_ws text) ≤ m
 unfolding skip_ws
 skip_ws_rest text m h = dropped _ text m h
 
@@ -50,9 +52,9 @@ skip_from_rest comments inside (c ∷ cs) m h =
     let turn = skip_turn comments inside c (first cs) in
     chosen (is_some turn) (skip_from comments (unwrap_or turn false) cs) (c ∷ cs) m (skip_from_rest comments (unwrap_or turn false) cs m (omega arith)) h
 
-pub ruleset leaving = (leaves_none, leaves_some, leaves_chosen, leaves_mapped, leaves_then, dropped, chosen, skip_ws_rest, skip_from_rest)
+ruleset leaving = (leaves_none, leaves_some, leaves_chosen, leaves_mapped, leaves_then, dropped, chosen, skip_ws_rest, skip_from_rest)
 
--- strings
+-- after a string, or a piece of one
 hex_escape_rest : (n : ℕ) (text : List ℕ) (m : ℕ) → length text ≤ m → Leaves m (hex_escape n text)
 unfolding hex_escape
 hex_escape_rest n text m h = search leaving
@@ -98,7 +100,7 @@ quoted_rest : (text : List ℕ) (m : ℕ) → length text ≤ m → Leaves m (qu
 unfolding quoted
 quoted_rest text m h = search (leaving, body_rest, trim_newline_rest, one_line_rest)
 
--- keys
+-- after a key
 simple_key_rest : (text : List ℕ) (m : ℕ) → length text ≤ m → Leaves m (simple_key text)
 unfolding simple_key
 simple_key_rest text m h = search (leaving, one_line_rest)
@@ -113,7 +115,7 @@ key_after_rest (suc n) path text m h =
 key_rest : (text : List ℕ) (m : ℕ) → length text ≤ m → Leaves m (key text)
 key_rest text m h = key_after_rest _ [] text m h
 
--- values
+-- after a string or a scalar
 scalar_rest : (o : Option Scalar) (text : List ℕ) (m : ℕ) → length text ≤ m → Leaves m (option_map (λ d. (d, text)) o)
 scalar_rest None text m h = leaves_none m
 scalar_rest (Some d) text m h = leaves_some m d text h
@@ -126,10 +128,11 @@ atom_rest : (text : List ℕ) (m : ℕ) → length text ≤ m → Leaves m (atom
 unfolding atom
 atom_rest text m h = search (leaving, quoted_rest, unquoted_rest)
 
--- at most m bytes are left where something was passed
+-- at most m bytes are left where a byte was passed
 pub record Passes (m : ℕ) (o : Option (List ℕ)) : Type 0 where
   pub rest : IfSome o (λ text. length text ≤ m)
 
+-- and so in what is put together with it
 passes_byte : (b : Bool) (text : List ℕ) (m : ℕ) → length text ≤ m → Passes m (cond b (Some text) None)
 passes_byte true text m h = record { rest = h }
 passes_byte false text m h = record { rest = tt }
@@ -162,6 +165,7 @@ pub key_equals_rest : (text : List ℕ) (m : ℕ) → length text ≤ m → Leav
 unfolding key_equals
 key_equals_rest text m h = search (leaving, key_rest, passes_byte, passes_mapped)
 
+-- after the elements of an array, a pair and the members of an inline table, if each value leaves no more
 module _ (val : List ℕ → Read Data) (m : ℕ) (val_rest : (t : List ℕ) → length t ≤ m → Leaves m (val t)) where
   items_rest : (n : ℕ) (found : Items) (text : List ℕ) → length text ≤ m → Leaves m (items val n found text)
   unfolding items
@@ -180,6 +184,7 @@ module _ (val : List ℕ → Read Data) (m : ℕ) (val_rest : (t : List ℕ) →
       let more : (front : Nodes) (t : List ℕ) → length t ≤ m → Leaves m (members val n front t) = λ front t k. members_rest n front t k in
       search (leaving, keyval_rest, any_then, after_element_rest, passes_then, more) depth 8
 
+-- after a value
 val_rest : (depth : ℕ) (text : List ℕ) (m : ℕ) → length text ≤ m → Leaves m (val depth text)
 unfolding val
 val_rest zero text m h = atom_rest text m h
@@ -187,7 +192,7 @@ val_rest (suc depth) text m h =
     let inner : (t : List ℕ) → length t ≤ m → Leaves m (val depth t) = λ t k. val_rest depth t m k in
     search (leaving, atom_rest, items_rest, members_rest, inner)
 
--- lines
+-- after a header, an expression and its line
 header_key_rest : (text : List ℕ) (m : ℕ) → length text ≤ m → Leaves m (header_key text)
 unfolding header_key
 header_key_rest text m h = search (leaving, key_rest, passes_byte, same_mapped)
@@ -200,6 +205,7 @@ pub line_rest : (text : List ℕ) (m : ℕ) → length text ≤ m → Leaves m (
 unfolding line
 line_rest text m h = search (leaving, expression_rest)
 
+-- after a byte order mark
 pub skip_bom_rest : (text : List ℕ) (m : ℕ) → length text ≤ m → length (skip_bom text) ≤ m
 unfolding skip_bom
 skip_bom_rest text m h = search leaving

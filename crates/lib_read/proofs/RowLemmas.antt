@@ -1,5 +1,5 @@
--- How many elements the arrays of a TOML document have that stand at its own keys.
-use Rattle.std.proofs.Common.{◌≡◌, ℕ, zero, suc, ◌+◌, ◌*◌, ◌<◌, ◌≤◌, Bool, true, false, cond, ◌&&◌, ◌==◌, List, [], ◌∷◌, ◌++◌, length, drop, slice_index, Option, Some, None, option_map, IfSome, refl, arith}
+-- How many elements the arrays have that stand at a TOML document's own keys.
+use Rattle.std.proofs.Common.{◌≡◌, ℕ, zero, suc, ◌+◌, ◌*◌, ◌≤◌, Bool, true, false, cond, ◌&&◌, ◌==◌, List, [], ◌∷◌, ◌++◌, length, drop, slice_index, Option, Some, None, option_map, IfSome, refl, arith}
 use Rattle.std.specs.Option.{option_and_then, option_map_or}
 use Rattle.std.specs.Ordering.{nat_cmp, match_ordering}
 use Rattle.std.specs.Cmp.Lexicographic.{slice_cmp}
@@ -10,14 +10,14 @@ use Rattle.toml_parser.specs.Strings.{Key, starts_string, quoted, recursion_limi
 use Rattle.toml_parser.specs.Numbers.{unquoted}
 use Rattle.toml_parser.specs.declared.scalar.Scalar.{Scalar}
 use Rattle.toml_parser.specs.declared.scalar.Scalar.TheVariants.{Boolean, Integer, Float, Datetime}
-use Rattle.toml.specs.Data.{Data, string, array, table, Items, no_items, item, Members, no_members, member, same_key, get_member, push_item}
+use Rattle.toml.specs.Data.{Data, string, array, table, Items, no_items, item, Members, no_members, same_key, get_member, push_item}
 use Rattle.toml.specs.Tables.{Origin, implicit, dotted, header, Node, value, open_table, open_array, Nodes, no_nodes, node, get_node, insert, replace, close_node, close, Edit, header_node, dot_node, by_header, by_dot, along_header, along_dots, Definition, key_value, std_table, array_table, Expression, new_node, redefine, at_found, at_key, put, Document, define_as, define}
 use Rattle.toml.specs.Parse.{read_map, items, members, keyval, key_equals, after_byte, atom, scalar_data, val, header_key, expression, ends_line, line, lines, skip_bom, parse_document}
 use Rattle.lib_read.proofs.RestLemmas.{Leaves, key_equals_rest, line_rest, skip_from_rest, skip_bom_rest}
 use Rattle.lib_read.specs.Tree.{items_list, elements}
 
 -- how many elements a value has: none where it is no array
-abbrev pub rows : Data → ℕ
+abbrev rows : Data → ℕ
 rows d = length (elements d)
 
 length-push_item : (ds : Items) (d : Data) → length (items_list (push_item ds d)) ≡ length (items_list ds) + 1
@@ -25,7 +25,7 @@ length-push_item no_items d = refl
 length-push_item (item e ds) d = omega (arith, length-push_item ds d)
 
 -- each value that stands at a key has at most n elements
-abbrev pub Few : ℕ → Nodes → Type 0
+abbrev Few : ℕ → Nodes → Type 0
 Few n no_nodes = Unit {0}
 Few n (node k x ns) = (rows (close_node x) ≤ n) × Few n ns
 
@@ -33,6 +33,7 @@ few_more : (n m : ℕ) → n ≤ m → (ns : Nodes) → Few n ns → Few m ns
 few_more n m le no_nodes h = tt
 few_more n m le (node k x ns) h = (omega (arith, h.0), few_more n m le ns h.1)
 
+-- which stays so where a key gets a node with at most n elements
 few_chosen : (n : ℕ) (b : Bool) (x y : Nodes) → Few n x → Few n y → Few n (cond b x y)
 few_chosen n true x y h k = h
 few_chosen n false x y h k = k
@@ -53,7 +54,7 @@ few_replaced n k x no_nodes few h = tt
 few_replaced n k x (node l y ns) few h =
     few_chosen n (same_key k l) (node l x ns) (node l y (replace k x ns)) (few, h.1) (h.0, few_replaced n k x ns few h.1)
 
--- what a look-up finds, and what stands in its place
+-- a look-up finds a node with at most n elements
 few_found : (n : ℕ) (k : List ℕ) (ns : Nodes) → Few n ns → IfSome (get_node k ns) (λ x. rows (close_node x) ≤ n)
 few_found n k no_nodes h = tt
 few_found n k (node l x ns) h = here (same_key k l) h.0 (few_found n k ns h.1)
@@ -62,6 +63,7 @@ few_found n k (node l x ns) h = here (same_key k l) h.0 (few_found n k ns h.1)
     here true few rest = few
     here false few rest = rest
 
+-- a new table, or a node with at most m elements in place of another
 module _ (m : ℕ) (k : List ℕ) (ns : Nodes) (few : Few m ns) where
   few_opened : (origin : Origin) (o : Option Nodes) → IfSome (option_map (λ new. insert k (open_table origin new) ns) o) (Few m)
   few_opened origin None = tt
@@ -79,6 +81,7 @@ few_array : (m : ℕ) (done : Items) (o : Option Nodes) → length (items_list d
 few_array m done None h = tt
 few_array m done (Some ns) h = omega (arith, length-push_item done (table (close ns)))
 
+-- a change below a key leaves the number of its elements as it is
 few_by_header : (m : ℕ) (edit : Edit) (x : Node) → rows (close_node x) ≤ m → IfSome (header_node edit x) (λ y. rows (close_node y) ≤ m)
 few_by_header m edit (value d) h = tt
 few_by_header m edit (open_table origin inner) h = few_table m origin (edit inner)
@@ -91,6 +94,7 @@ few_by_dot m edit (open_table implicit inner) = few_table m dotted (edit inner)
 few_by_dot m edit (open_table dotted inner) = few_table m dotted (edit inner)
 few_by_dot m edit (open_array done last) = tt
 
+-- so a change of the table at the end of a path keeps the bound, or is one of this table
 few_header_step : (m : ℕ) (k : List ℕ) (edit : Edit) (ns : Nodes) (o : Option Node) → Few m ns → IfSome o (λ x. rows (close_node x) ≤ m) → IfSome (by_header k edit ns o) (Few m)
 few_header_step m k edit ns None few h = few_opened m k ns few implicit (edit no_nodes)
 few_header_step m k edit ns (Some x) few h = few_placed m k ns few (header_node edit x) (few_by_header m edit x h)
@@ -110,11 +114,12 @@ few_along_dots m [] edit ns few h = h
 few_along_dots m (k ∷ path) edit ns few h = few_dot_step m k (along_dots path edit) ns (get_node k ns) few
 
 -- a definition whose value has at most m elements
-abbrev pub FewDefined : ℕ → Definition → Type 0
+abbrev FewDefined : ℕ → Definition → Type 0
 FewDefined m (key_value d) = rows d ≤ m
 FewDefined m std_table = Unit {0}
 FewDefined m array_table = Unit {0}
 
+-- a definition adds at most one element to those that a key has
 few_new : (m : ℕ) (what : Definition) → 1 ≤ m → FewDefined m what → rows (close_node (new_node what)) ≤ m
 few_new m (key_value d) some h = h
 few_new m std_table some h = omega arith
@@ -164,9 +169,10 @@ unfolding define
 few_define n doc e few h = few_define_as n doc e.0 e.1 few h
 
 -- a fact of what was read, where something was
-pub record Reads {A : Type 0} (P : A → Type 0) (r : Read A) : Type 0 where
-  pub fact : IfSome r (λ p. P p.0)
+record Reads {A : Type 0} (P : A → Type 0) (r : Read A) : Type 0 where
+  fact : IfSome r (λ p. P p.0)
 
+-- which is told from the parts of what was read
 reads_none : {A : Type 0} (P : A → Type 0) → Reads P None
 reads_none P = record { fact = tt }
 
@@ -193,10 +199,11 @@ reads_as : {A B : Type 0} (Q : B → Type 0) (f : A → B) (r : Read A) → ((a 
 reads_as Q f None each = reads_none Q
 reads_as Q f (Some p) each = reads_some Q (f p.0) p.1 (each p.0)
 
--- an array has at most as many elements as there are bytes
+-- at most m elements
 abbrev AtMost : ℕ → Items → Type 0
 AtMost m ds = length (items_list ds) ≤ m
 
+-- an array has at most as many elements as the text has bytes, so any value has
 items_few : (val : List ℕ → Read Data) (n m : ℕ) (found : Items) (text : List ℕ) → length (items_list found) + n ≤ m → Reads (AtMost m) (items val n found text)
 unfolding items
 items_few val zero m found text h = reads_none (AtMost m)
@@ -230,7 +237,7 @@ val_few (suc depth) text m h =
     (reads_mapped (AtMost m) (FewRows m) array an_array (items_few (val depth) (length text) m no_items (drop 1 text) (omega arith)) (λ ds h. h))
     (reads_chosen (FewRows m) (first text == 123) (read_map table a_table) (atom text) (reads_as (FewRows m) table a_table (λ ms. omega arith)) (atom_few text m))
 
--- the value of a line
+-- an expression whose value has at most m elements
 abbrev FewInLine : ℕ → Expression → Type 0
 FewInLine m e = FewDefined m e.1
 
@@ -256,7 +263,7 @@ expression_few text m h =
     at_header k None = reads_none (FewInLine m)
     at_header k (Some rest) = reads_some (FewInLine m) (k, array_table) rest tt
 
--- where a line is read, fewer bytes are left than before it, and its value is that short
+-- an expression and its rest, with no more than m bytes or elements
 abbrev LineFits : ℕ → Expression × List ℕ → Type 0
 LineFits m e = (length e.1 ≤ m) × FewInLine m e.0
 
@@ -311,13 +318,14 @@ found_few n Less x y z h k l = h
 found_few n Equal x y z h k l = k
 found_few n Greater x y z h k l = l
 
+-- the members that nodes stand for
 closed_few : (n : ℕ) (ns : Nodes) → Few n ns → FewAtKeys n (close ns)
 closed_few n no_nodes few k = omega arith
 closed_few n (node l x ns) few k =
     let rest = closed_few n ns few.1 k in
     found_few n (slice_cmp nat_cmp k l) (get_member k (close ns)) (Some (close_node x)) (get_member k (close ns)) rest few.0 rest
 
--- no array at a key of a document has more than twice as many elements as the text has bytes, and one
+-- no array at a key of a document has more elements than twice the bytes of its text, and one
 pub document_few : (text : List ℕ) → IfSome (parse_document text) (FewAtKeys (2 * length text + 1))
 unfolding parse_document
 document_few text =
