@@ -1,5 +1,6 @@
 // The edges of a library's links, and the template.
-ghost use Rattle.std.specs.Prelude.{◌≡◌, ◌≤◌, ◌<◌, ◌^◌, ◌++◌, ◌↔◌, IsTrue, IfOk, OnOk, length, nat_eq, not, map, filter};
+ghost use Rattle.std.specs.Prelude.{◌≡◌, ◌≤◌, ◌<◌, ◌^◌, ◌++◌, ◌↔◌, IsTrue, IfOk, OnOk};
+ghost use Rattle.std.specs.Prelude.{length, nat_eq, not, map, filter};
 ghost use Rattle.std.specs.List.{All, flat_map};
 ghost use Rattle.arch_model.specs.Library.{IsTypeRow, IsLinkRow};
 ghost use Rattle.arch_model.specs.Template.{template_of, components_of, instances_of, edges_of_link, edges_of};
