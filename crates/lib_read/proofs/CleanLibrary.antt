@@ -1,5 +1,5 @@
 -- The rows of a document without a fault make a library.
-use Rattle.std.proofs.Common.{◌≡◌, ◌≢◌, codes, ℕ, ◌+◌, ◌-◌, ◌<◌, ◌≤◌, Bool, true, false, cond, nat_lt, List, [], ◌∷◌, ◌++◌, map, take, length, get_or, Option, Some, None, IfSome, refl, sym, ap, subst, ◌∙◌, arith}
+use Rattle.std.proofs.Common.{◌≡◌, ◌≢◌, codes, ℕ, ◌+◌, ◌-◌, ◌^◌, ◌<◌, ◌≤◌, Bool, true, false, cond, nat_lt, List, [], ◌∷◌, ◌++◌, map, take, length, get_or, Option, Some, None, IfSome, refl, sym, ap, subst, ◌∙◌, arith}
 use Rattle.std.specs.Option.{option_map_or}
 use Rattle.std.specs.List.{All, AllPairs, AllByRecursion, list_any, filter_map, flat_map, enumerate_from, range_with_len, count_by}
 use Rattle.std.specs.Str.{bytes_eq}
@@ -256,6 +256,10 @@ row_of_made P f vs rs e h = row_of (λ row. P (f row)) vs rs e
 
 pub few_names : (top : Data) → Judged top → length (components_of (types_of top)) ≤ COMPONENTS → length (type_names top) ≤ 64
 few_names top j few = omega (arith, names_count top j, length-types-le (types_of top) (types_fit top j))
+
+-- types with a number of 32 bits each
+pub few_types : (types : List TypeRow) (top : Data) → Judged top → types ≡ types_of top → length (components_of (types_of top)) ≤ COMPONENTS → length types ≤ 2 ^ 32
+few_types types top j same few = omega (arith, ap length same, length-types-le (types_of top) (types_fit top j))
 
 -- the parts of the library, as they were read
 pub parts_are : (top : Data) (types : List TypeRow) (links : List LinkRow) (template : TemplateParts) (patterns : List Pattern) (requirements : List Requirement)

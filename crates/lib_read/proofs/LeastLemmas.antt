@@ -40,6 +40,13 @@ best_stays : (f : LibFault) (fs : List LibFault) → AllByRecursion (NotBefore f
 best_stays f [] h = refl
 best_stays f (g ∷ fs) h = ap (λ b. best_of beats (cond b g f) fs) h.0 ∙ best_stays f fs h.1
 
+-- what holds of each fault holds of the least
+pub least_keeps : (P : LibFault → Type 0) (fs : List LibFault) (f : LibFault) → AllByRecursion P fs → Some f ≡ least fs → P f
+least_keeps P [] f h e = absurd (cc)
+least_keeps P (x ∷ fs) f h e =
+    let is : best_of beats x fs ≡ f = cc in
+    subst P is (best_keeps P x fs h.0 h.1)
+
 pub least-none : (fs : List LibFault) → None ≡ least fs → fs ≡ []
 least-none [] e = refl
 least-none (f ∷ fs) e = absurd (cc)

@@ -8,6 +8,9 @@ pub mod RepeatLemmas
 pub mod ListFacts
 pub mod CleanRows
 pub mod CleanLibrary
+pub mod RestLemmas
+pub mod RowLemmas
+pub mod PositionLemmas
 pub mod ReadLemmas
 pub mod WorkedRows
 pub mod Unrequired

@@ -58,9 +58,11 @@ fn faulty_key(
 ) -> Option<&'static str>
     requires { IsStrictlySortedBy text_cmp (map (λ key. key.name) (map key_view keys.now)) }
     ensures first { option_copied result ≡
-        first (map (λ key. key.name) (filter (spec.is_faulty (view top.now) names.now class (view row.now)) (map key_view keys.now))) }
+        first (map (λ key. key.name)
+        (filter (spec.is_faulty (view top.now) names.now class (view row.now)) (map key_view keys.now))) }
     ensures ascend { IsStrictlySortedBy text_cmp
-        (map (λ key. key.name) (filter (spec.is_faulty (view top.now) names.now class (view row.now)) (map key_view keys.now))) }
+        (map (λ key. key.name)
+        (filter (spec.is_faulty (view top.now) names.now class (view row.now)) (map key_view keys.now))) }
 {
     for key in keys {
         if is_faulty(class, key, row, names, top) {

@@ -1,5 +1,5 @@
 // The library of bytes.
-ghost use Rattle.std.specs.Prelude.{◌≡◌, [], Some, None, Ok, Err, IfOk, IfErr, option_map};
+ghost use Rattle.std.specs.Prelude.{◌≡◌, ◌<◌, ◌^◌, [], Some, None, Ok, Err, IfOk, IfErr, option_map};
 ghost use Rattle.toml.specs.View.{view};
 ghost use Rattle.lib_read.specs.Fault.{least};
 ghost use Rattle.lib_read.specs.Tree.{tree_of};
@@ -27,17 +27,14 @@ const PATTERNS: usize = 200;
 
 // A fault as an answer, with a key of its own.
 fn told(alloc: Global, fault: Fault) -> LibError
+    requires { fault.position < 2 ^ 32 }
     ensures { Tells (fault_view fault.entry) result }
 {
-    // No file of the greatest length has 2^32 rows.
-    let Ok(position) = u32::try_from(fault.position) else {
-        return LibError::Memory;
-    };
     match Vec::from_slice(alloc, fault.key.as_bytes()) {
         Ok(key) => LibError::Fault(LibFault {
             class: fault.class,
             table: fault.table,
-            position,
+            position: fault.position as u32,
             key: KeyText::new(key),
         }),
         Err(_) => LibError::Memory,

@@ -1,5 +1,6 @@
 // The edges of a library's links, and the template.
-ghost use Rattle.std.specs.Prelude.{◌≡◌, ◌≤◌, ◌<◌, ◌++◌, ◌↔◌, IsTrue, IfOk, OnOk, length, nat_eq, not, map, filter};
+ghost use Rattle.std.specs.Prelude.{◌≡◌, ◌≤◌, ◌<◌, ◌^◌, ◌++◌, ◌↔◌, IsTrue, IfOk, OnOk};
+ghost use Rattle.std.specs.Prelude.{length, nat_eq, not, map, filter};
 ghost use Rattle.std.specs.List.{All, flat_map};
 ghost use Rattle.arch_model.specs.Library.{IsTypeRow, IsLinkRow};
 ghost use Rattle.arch_model.specs.Template.{template_of, components_of, instances_of, edges_of_link, edges_of};
@@ -66,9 +67,9 @@ fn edges(alloc: Global, components: &[Component], links: &[LinkRow]) -> Result<V
 }
 
 /// The template of some types and links: types in order, then by index; links in order, then by
-/// tail, then by head. Memory is also the answer where a type with instances comes after 2^32
-/// others: a component has no room for its number.
+/// tail, then by head. `Memory` is want of memory alone.
 pub fn expand(alloc: Global, types: &[TypeRow], links: &[LinkRow]) -> Result<Template, Memory>
+    requires numbered { length types.now ≤ 2 ^ 32 }
     requires few_components { length (components_of types.now) ≤ COMPONENTS }
     ensures { IfOk result (λ t. t ≡ template_of types.now links.now) }
 {

@@ -4,19 +4,15 @@ ghost use Rattle.arch_model.specs.Template.{components_of, instances_of_type};
 
 use arch_model::limits::COMPONENTS;
 use arch_model::{Component, Memory, TypeRow};
-use std::alloc::{AllocError, Global};
+use std::alloc::Global;
 
-// Appends the instances of type number t. A number over u32's has no room in a component, so its
-// first instance is answered like memory that is wanting.
-fn push_instances(components: &mut Vec<Component>, t: usize, row: &TypeRow) -> Result<(), Memory>
+// Appends the instances of type number t.
+fn push_instances(components: &mut Vec<Component>, t: u32, row: &TypeRow) -> Result<(), Memory>
     ensures { OnOk result (components.new.items ≡ components.old.items ++ instances_of_type t row.now) }
 {
     for i in 0..row.max {
-        if t > u32::MAX as usize {
-            return Err(AllocError);
-        }
         components.push(Component {
-            of: t as u32,
+            of: t,
             index: i + 1,
             role: row.role,
             cost: row.cost,
@@ -30,11 +26,12 @@ fn push_instances(components: &mut Vec<Component>, t: usize, row: &TypeRow) -> R
 
 /// The components of some types: types in order, then by index.
 pub(crate) fn components(alloc: Global, types: &[TypeRow]) -> Result<Vec<Component>, Memory>
+    requires numbered { length types.now ≤ 2 ^ 32 }
     ensures { IfOk result (λ v. v.items ≡ components_of types.now) }
 {
     let mut components = Vec::new(alloc);
     for (t, row) in types.iter().enumerate() {
-        push_instances(&mut components, t, row)?;
+        push_instances(&mut components, t as u32, row)?;
     }
     Ok(components)
 }

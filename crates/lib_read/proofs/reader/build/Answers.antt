@@ -9,7 +9,7 @@ use Rattle.lib_read.specs.Tree.{rows_of}
 use Rattle.arch_model.specs.Library.{IsTypeRow, IsLinkRow, IsLibrary}
 use Rattle.lib_read.specs.Components.{names_of_type}
 use Rattle.lib_read.specs.Rows.{type_names, types_of, links_by, patterns_by}
-use Rattle.lib_read.proofs.CleanLibrary.{judged_parts, types_fit, links_fit, few_names, parts_are, pattern_rows_fit, is_library, as_many}
+use Rattle.lib_read.proofs.CleanLibrary.{judged_parts, types_fit, links_fit, few_names, few_types, parts_are, pattern_rows_fit, is_library, as_many}
 use Rattle.lib_read.proofs.ComponentLemmas.{same_names}
 use Rattle.lib_read.proofs.reader.build.Goals as goal
 
@@ -53,6 +53,13 @@ pattern_rows-requires-clause-components c =
 
 pub pattern_rows-requires-clause-fit : goal.pattern_rows-requires-clause-fit
 pattern_rows-requires-clause-fit c = let top = view c.args.top.now in pattern_rows_fit top (judged_parts top c.requires.judged)
+
+pub expand-requires-clause-numbered : goal.expand-requires-clause-numbered
+expand-requires-clause-numbered c =
+    let top = view c.args.top.now in
+    let types = c.deref.ensures.value ∙ c.in_ok-types.ensures in
+    let few = subst (λ rows. length (components_of rows) ≤ COMPONENTS) types (c.if-not-has_few_components.ensures.0 refl) in
+    few_types c.deref-6.result.now top (judged_parts top c.requires.judged) (c.deref-6.ensures.value ∙ c.in_ok-types.ensures) few
 
 pub new-requires-2 : goal.new-requires-2
 new-requires-2 c =

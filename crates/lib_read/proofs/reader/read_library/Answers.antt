@@ -1,8 +1,13 @@
-use Rattle.std.proofs.Common.{ap, ◌∙◌, option_map}
+use Rattle.std.proofs.Common.{arith, ap, ◌∙◌, option_map}
 use Rattle.toml.specs.View.{view}
 use Rattle.lib_read.specs.Keys.{fault_view}
+use Rattle.lib_read.proofs.PositionLemmas.{position_fits}
 use Rattle.lib_read.proofs.ReadLemmas.{library_is, no_document, too_many, fault_found, told_so}
 use Rattle.lib_read.proofs.reader.read_library.Goals as goal
+
+pub told-requires-in-Err-Fault : goal.told-requires-in-Err-Fault
+told-requires-in-Err-Fault c =
+    position_fits c.args.bytes.now (view c.in-Some.top) (fault_view c.in-Err-Fault.fault) (omega arith) (c.in_ok-top.ensures ∙ ap (option_map view) c.in-Some.is) (rw c.in-Err-Fault.field-0-is at c.in-Err-Fault.ensures.stops)
 
 pub returns-then-bytes-gt-LARGEST-clause-fault : goal.returns-then-bytes-gt-LARGEST-clause-fault
 returns-then-bytes-gt-LARGEST-clause-fault c =
