@@ -124,6 +124,7 @@ fn library(
     requires links { All (IsLinkRow (length types.items)) links.items }
     requires pairs { AllPairs (λ a b. a.from ≡ b.from → a.to ≢ b.to) links.items }
 {
+    assert!(rt; types.len() <= 64);
     assert!(rt; has_few_components(&types));
     assert!(rt; has_few_edges(&types, &links));
     let template = expand(rt.alloc(), &types, &links)?;
