@@ -18,7 +18,7 @@ use Rattle.rows.specs.Row.{term}
 use Rattle.rows.specs.Problem.{IsVectorOf}
 use Rattle.rows.specs.BaseRows.{plus, minus, member_row, at_least, at_most, degree_rows, in_variables, out_variables, edge_variables, in_needs_out_rows, exclusive_rows}
 use Rattle.binary_program.specs.Says.{Says}
-use Rattle.binary_program.proofs.Counted.{chain, back, pair, moved, all_same, all_weaker, all_any, all_append, all_listed, all_flat, tally, tally-le, any_counts, least_row, needed_row, apart_row, absent_row, Holds, at_least_says, at_most_says, each_says, degree_says, component_value, instances_count, edges_count, in_count, out_count, instances_below, instances_members, edges_below, each_instance, no_in_edges, no_out_edges}
+use Rattle.binary_program.proofs.Counted.{chain, back, pair, moved, all_same, all_any, all_append, all_listed, all_flat, tally, tally-le, any_counts, least_row, needed_row, apart_row, absent_row, Holds, at_least_says, at_most_says, each_says, degree_says, component_value, instances_count, edges_count, in_count, out_count, instances_below, instances_members, edges_below, each_instance, no_in_edges, no_out_edges}
 
 -- equal numbers need one another alike
 moved_need : (k l m n : ℕ) → k ≡ l → m ≡ n → (0 < k → 0 < m) ↔ (0 < l → 0 < n)

@@ -20,7 +20,8 @@ use Rattle.rows.specs.Parts.{RowParts}
 use Rattle.rows.specs.Problem.{IsVectorOf}
 use Rattle.rows.specs.Row.{term, value_of, row_of, RowHolds}
 use Rattle.rows.specs.BaseRows.{plus, minus, member_row, at_least, at_most, degree_rows, edge_variables, in_variables, out_variables}
-use Rattle.rows.proofs.Collected.{value_of-collected}
+use Rattle.rows.proofs.AllParts.{all_left, all_right, all_joined, all_parts, all_flat as parts_all, all_then}
+use Rattle.rows.proofs.EdgeRows.{holds_from, holds_to}
 use Rattle.rows.proofs.IntSums.{int_sum_by-append}
 
 -- two equivalences in a row are one
@@ -44,11 +45,6 @@ pub all_same : {X : Type 0} (P Q : X → Type 0) (xs : List X) → AllByRecursio
 all_same P Q [] same = (λ h. tt, λ h. tt)
 all_same P Q (x ∷ xs) same = let rest = all_same P Q xs same.1 in (λ h. (same.0.0 h.0, rest.0 h.1), λ h. (same.0.1 h.0, rest.1 h.1))
 
--- a fact that follows at each element follows of all
-pub all_weaker : {X : Type 0} (P Q : X → Type 0) → ((x : X) → P x → Q x) → (xs : List X) → AllByRecursion P xs → AllByRecursion Q xs
-all_weaker P Q f [] h = tt
-all_weaker P Q f (x ∷ xs) h = (f x h.0, all_weaker P Q f xs h.1)
-
 -- what holds of everything holds of each element
 pub all_any : {X : Type 0} (P : X → Type 0) → ((x : X) → P x) → (xs : List X) → AllByRecursion P xs
 all_any P f [] = tt
@@ -61,8 +57,7 @@ all_map P f (x ∷ xs) = let rest = all_map P f xs in (λ h. (h.0, rest.0 h.1), 
 
 -- a fact of two lists in a row is one of each list
 pub all_append : {X : Type 0} (P : X → Type 0) (xs ys : List X) → AllByRecursion P (xs ++ ys) ↔ (AllByRecursion P xs × AllByRecursion P ys)
-all_append P [] ys = (λ h. (tt, h), λ h. h.1)
-all_append P (x ∷ xs) ys = let rest = all_append P xs ys in (λ h. let r = rest.0 h.1 in ((h.0, r.0), r.1), λ h. (h.0.0, rest.1 (h.0.1, h.1)))
+all_append P xs ys = (λ h. (all_left P xs ys h, all_right P xs ys h), λ h. all_joined P xs ys h.0 h.1)
 
 -- a fact of all elements by number is one by recursion on the list
 pub all_listed : {X : Type 0} (P : X → Type 0) (xs : List X) → All P xs ↔ AllByRecursion P xs
@@ -70,10 +65,7 @@ all_listed P xs = (recursion_from_All P xs, All-from_recursion P xs)
 
 -- a fact of all that is made of each element is one of each element
 pub all_flat : {X Y : Type 0} (P : Y → Type 0) (f : X → List Y) (xs : List X) → AllByRecursion P (flat_map f xs) ↔ AllByRecursion (λ x. AllByRecursion P (f x)) xs
-all_flat P f [] = (λ h. tt, λ h. tt)
-all_flat P f (x ∷ xs) =
-    let parts = all_append P (f x) (flat_map f xs) in
-    let rest = all_flat P f xs in (λ h. let p = parts.0 h in (p.0, rest.0 p.1), λ h. parts.1 (h.0, rest.1 h.1))
+all_flat P f xs = (all_parts P f xs, parts_all P f xs)
 
 -- how many elements pass a test
 abbrev pub tally : {X : Type 0} → (X → Bool) → List X → ℕ
@@ -252,12 +244,7 @@ none_one false = (λ h on. let g : false ≡ true = on in cc, λ h. omega (arith
 module _ (n : ℕ) (x : ℕ → Bool) where
   -- a row of terms over the variables below n says what its terms come to
   row_says : (terms : List Term) (least : ℤ) → AllByRecursion (λ t. t.var.0 < n) terms → RowHolds (row_of n terms least) x ↔ (least ≤ℤ value_of terms x)
-  row_says terms least below =
-      let same = value_of-collected n terms x below in
-      let P : ℤ → Type 0 = λ z. least ≤ℤ z in (
-        (λ h. subst P same h),
-        (λ h. subst P (sym same) h),
-      )
+  row_says terms least below = (holds_to n terms least x below, holds_from n terms least x below)
 
   -- terms with coefficient 1 have the variables that they are made of
   plus_below : (vs : List ℕ) → AllByRecursion (λ v. v < n) vs → AllByRecursion (λ t. t.var.0 < n) (map plus vs)
@@ -342,7 +329,7 @@ module _ (x : ℕ → Bool) where
       → AllByRecursion Holds (map row vs) ↔ (0 < tally x vs → P)
   each_says n P row vs below says =
       chain (all_map Holds row vs)
-      (chain (all_same (λ v. Holds (row v)) (λ v. x v ≡ true → P) vs (all_weaker (λ v. v < n) (λ v. Holds (row v) ↔ (x v ≡ true → P)) says vs below)) (any_counts P x vs))
+      (chain (all_same (λ v. Holds (row v)) (λ v. x v ≡ true → P) vs (all_then (λ v. v < n) (λ v. Holds (row v) ↔ (x v ≡ true → P)) says vs below)) (any_counts P x vs))
 
   -- for a number that is 0 where a test fails, a greatest holds where it holds if the test does
   most_alike : (max : Option ℕ) (on : Bool) (n : ℕ) → (on ≡ false → n ≡ 0) → (on ≡ true → IfSome max (λ m. n ≤ m)) → IfSome max (λ m. n ≤ m)
@@ -432,7 +419,7 @@ module _ (lib : LibraryParts) (arch : ArchitectureParts) (fits : IsArchitecture 
       sym (tally_is (λ (e : Edge). is_instance lib t e.tail.0) (edges_into lib arch i))
       ∙ tally-filter (λ (e : Edge). nat_eq e.head.0 i) (λ e. is_instance lib t e.tail.0) (present_edges lib arch)
       ∙ none_counts (λ (e : Edge). nat_eq e.head.0 i && is_instance lib t e.tail.0) (present_edges lib arch)
-      (all_weaker (λ (e : Edge). IsTrue (has arch.comps e.head.0)) _ (λ e here. not_there e.head.0 (is_instance lib t e.tail.0) here) (present_edges lib arch) (recursion_from_All _ (present_edges lib arch) fits.heads))
+      (all_then (λ (e : Edge). IsTrue (has arch.comps e.head.0)) _ (λ e here. not_there e.head.0 (is_instance lib t e.tail.0) here) (present_edges lib arch) (recursion_from_All _ (present_edges lib arch) fits.heads))
 
   -- no present edge leads from an absent component
   pub no_out_edges : out_degree lib arch t i ≡ 0
@@ -440,4 +427,4 @@ module _ (lib : LibraryParts) (arch : ArchitectureParts) (fits : IsArchitecture 
       sym (tally_is (λ (e : Edge). is_instance lib t e.head.0) (edges_out_of lib arch i))
       ∙ tally-filter (λ (e : Edge). nat_eq e.tail.0 i) (λ e. is_instance lib t e.head.0) (present_edges lib arch)
       ∙ none_counts (λ (e : Edge). nat_eq e.tail.0 i && is_instance lib t e.head.0) (present_edges lib arch)
-      (all_weaker (λ (e : Edge). IsTrue (has arch.comps e.tail.0)) _ (λ e here. not_there e.tail.0 (is_instance lib t e.head.0) here) (present_edges lib arch) (recursion_from_All _ (present_edges lib arch) fits.tails))
+      (all_then (λ (e : Edge). IsTrue (has arch.comps e.tail.0)) _ (λ e here. not_there e.tail.0 (is_instance lib t e.head.0) here) (present_edges lib arch) (recursion_from_All _ (present_edges lib arch) fits.tails))

@@ -1,6 +1,6 @@
 -- The kinds of patterns that add up costs and supplies: their rows hold exactly where the pattern is met.
 use Rattle.std.proofs.Common.{◌≡◌, ℕ, zero, suc, ◌+◌, ◌<◌, ◌≤◌, ℤ, pos, neg_ℤ, ◌+ℤ◌, ◌-ℤ◌, ◌≤ℤ◌, Bool, true, false, cond, nat_eq, List, [], ◌∷◌, ◌++◌, map, filter, length, Option, Some, None, refl, sym, ap, subst, ◌∙◌, arith, inl, inr, eqb-true}
-use Rattle.std.specs.Prelude.{◌↔◌}
+use Rattle.std.specs.Prelude.{◌↔◌, IsTrue}
 use Rattle.std.specs.List.{All, AllByRecursion, enumerate_from, slice_get, sum_by}
 use Rattle.std.specs.Option.{option_map_or}
 use Rattle.std.proofs.lemmas.Int.{ints}
@@ -27,6 +27,7 @@ use Rattle.rows.proofs.EdgeRows.{holds_from, holds_to}
 use Rattle.rows.proofs.Chosen.{chosen_from, value_of-enumerated, value_of-numbered, int_sum_by-differences, int_sum_by-naturals, int_sum_by-negated}
 use Rattle.rows.proofs.VectorLaws.{numbered_below, chosen_components, chosen_edges_present, cost_value, cost_terms_below}
 use Rattle.binary_program.specs.Says.{Says}
+use Rattle.binary_program.proofs.Counted.{chain, all_listed, all_map, all_same, all_any, each_instance}
 
 -- one row says what its terms' sum says
 one_row : (n : ℕ) (terms : List Term) (least sum : ℤ) (x : ℕ → Bool) (A : Type 0) → AllByRecursion (λ t. t.var.0 < n) terms → value_of terms x ≡ sum → (least ≤ℤ sum → A) → (A → least ≤ℤ sum)
@@ -41,52 +42,6 @@ alone x row A says = (
   (λ all. says.0 (recursion_from_All (λ (r : RowParts). RowHolds r x) (row ∷ []) all).0),
   (λ a. All-from_recursion (λ (r : RowParts). RowHolds r x) (row ∷ []) (says.1 a, tt)),
 )
-
--- the numbers of the items that pass a test, one at a time
-numbers_to : {X : Type 0} (P : ℕ → Type 0) (test : X → Bool) (b : ℕ) (xs : List X) → AllByRecursion P (map (λ (p : ℕ × X). p.0) (filter (λ (p : ℕ × X). test p.1) (enumerate_from b xs)))
-    → (i : ℕ) (y : X) → slice_get xs i ≡ Some y → test y ≡ true → P (b + i)
-numbers_to P test b [] all i y is on = absurd (let e : None ≡ Some y = is in cc)
-numbers_to {X = X} P test b (z ∷ xs) all zero y is on =
-    let same : z ≡ y = cc in
-    let here : b ≡ b + 0 = omega arith in
-    let kept = subst (λ (c : Bool). AllByRecursion P (map (λ (p : ℕ × X). p.0) (cond c ((b, z) ∷ filter (λ (p : ℕ × X). test p.1) (enumerate_from (b + 1) xs)) (filter (λ (p : ℕ × X). test p.1) (enumerate_from (b + 1) xs))))) (ap test same ∙ on) all in
-    subst P here kept.0
-numbers_to {X = X} P test b (z ∷ xs) all (suc i) y is on =
-    let further : (b + 1) + i ≡ b + suc i = omega arith in
-    subst P further (numbers_to P test (b + 1) xs (rest (test z) all) i y is on) where
-      rest : (c : Bool) → AllByRecursion P (map (λ (p : ℕ × X). p.0) (cond c ((b, z) ∷ filter (λ (p : ℕ × X). test p.1) (enumerate_from (b + 1) xs)) (filter (λ (p : ℕ × X). test p.1) (enumerate_from (b + 1) xs))))
-          → AllByRecursion P (map (λ (p : ℕ × X). p.0) (filter (λ (p : ℕ × X). test p.1) (enumerate_from (b + 1) xs)))
-      rest true all = all.1
-      rest false all = all
-
-numbers_from : {X : Type 0} (P : ℕ → Type 0) (test : X → Bool) (b : ℕ) (xs : List X) → ((i : ℕ) (y : X) → slice_get xs i ≡ Some y → test y ≡ true → P (b + i))
-    → AllByRecursion P (map (λ (p : ℕ × X). p.0) (filter (λ (p : ℕ × X). test p.1) (enumerate_from b xs)))
-numbers_from P test b [] each = tt
-numbers_from {X = X} P test b (z ∷ xs) each =
-    let here : b + 0 ≡ b = omega arith in
-    let rest = numbers_from P test (b + 1) xs (λ i y is on. let further : b + suc i ≡ (b + 1) + i = omega arith in subst P further (each (suc i) y is on)) in
-    joined (test z) (λ on. subst P here (each 0 z refl on)) rest where
-      joined : (c : Bool) → (c ≡ true → P b) → AllByRecursion P (map (λ (p : ℕ × X). p.0) (filter (λ (p : ℕ × X). test p.1) (enumerate_from (b + 1) xs)))
-          → AllByRecursion P (map (λ (p : ℕ × X). p.0) (cond c ((b, z) ∷ filter (λ (p : ℕ × X). test p.1) (enumerate_from (b + 1) xs)) (filter (λ (p : ℕ × X). test p.1) (enumerate_from (b + 1) xs))))
-      joined true here rest = (here refl, rest)
-      joined false here rest = rest
-
--- what holds of each instance of a type
-some_row : (test : Component → Bool) (o : Option Component) → option_map_or test o false ≡ true → (row : Component) × (o ≡ Some row) × (test row ≡ true)
-some_row test None h = absurd (let e : false ≡ true = h in cc)
-some_row test (Some row) h = (row, refl, h)
-
-pub instances_to : (P : ℕ → Type 0) (lib : LibraryParts) (t : ℕ) → AllByRecursion P (instances_of lib.components t) → (i : ℕ) → is_instance lib t i ≡ true → P i
-instances_to P lib t all i on =
-    let some = some_row (λ row. nat_eq row.of t) (slice_get lib.components i) on in
-    let same : 0 + i ≡ i = omega arith in
-    subst P same (numbers_to P (λ (row : Component). nat_eq row.of t) 0 lib.components all i some.0 some.1 some.2)
-
-pub instances_from : (P : ℕ → Type 0) (lib : LibraryParts) (t : ℕ) → ((i : ℕ) → is_instance lib t i ≡ true → P i) → AllByRecursion P (instances_of lib.components t)
-instances_from P lib t each =
-    numbers_from P (λ (row : Component). nat_eq row.of t) 0 lib.components (λ i row is on.
-        let same : i ≡ 0 + i = omega arith in
-        subst P same (each i (ap (λ (o : Option Component). option_map_or (λ row. nat_eq row.of t) o false) is ∙ on)))
 
 -- terms of numbered items that pass a test have their numbers as variables
 filtered_below : {X : Type 0} (f : X → ℤ) (test : X → Bool) (b n : ℕ) (xs : List X) → b + length xs ≤ n → AllByRecursion (λ t. t.var.0 < n) (map (λ (p : ℕ × X). term p.0 (f p.1)) (filter (λ (p : ℕ × X). test p.1) (enumerate_from b xs)))
@@ -107,14 +62,6 @@ none_leaves s i (e ∷ es) all off = elim (bool_cases (nat_eq e.tail.0 i)) [
   | inl here ↦ absurd (let f : true ≡ false = sym all.0 ∙ ap s (eqb-true e.tail.0 i here) ∙ off in cc)
   | inr there ↦ ap (λ b. cond b (e ∷ filter (λ d. nat_eq d.tail.0 i) es) (filter (λ d. nat_eq d.tail.0 i) es)) there ∙ none_leaves s i es all.1 off
 ]
-
-map_to : {X Y : Type 0} (P : Y → Type 0) (f : X → Y) (xs : List X) → AllByRecursion P (map f xs) → AllByRecursion (λ x. P (f x)) xs
-map_to P f [] all = tt
-map_to P f (x ∷ xs) all = (all.0, map_to P f xs all.1)
-
-map_from : {X Y : Type 0} (P : Y → Type 0) (f : X → Y) (xs : List X) → AllByRecursion (λ x. P (f x)) xs → AllByRecursion P (map f xs)
-map_from P f [] all = tt
-map_from P f (x ∷ xs) all = (all.0, map_from P f xs all.1)
 
 at_least_from : (d s : ℕ) → d ≤ s → pos 0 ≤ℤ (pos s -ℤ pos d)
 at_least_from d s h = omega (arith, ints)
@@ -210,17 +157,20 @@ module _ (lib : LibraryParts) (right : IsLibrary lib) (arch : ArchitectureParts)
       let none : demand_at i ≡ 0 = ap (sum_by demand_out) (none_leaves (has arch.comps) i (present_edges lib arch) (recursion_from_All (λ (e : Edge). has arch.comps e.tail.0 ≡ true) (present_edges lib arch) fits.tails) off) in
       omega arith
 
-  pub local_supply_says : (t : ℕ) → Says lib arch x (LocalSupply t)
-  local_supply_says t = (
-    (λ all i is on. (local_row_says i).0 (instances_to (λ (j : ℕ). RowHolds (local_supply_row lib j) x) lib t
-        (map_to (λ (r : RowParts). RowHolds r x) (local_supply_row lib) (instances_of lib.components t) (recursion_from_All (λ (r : RowParts). RowHolds r x) (map (local_supply_row lib) (instances_of lib.components t)) all)) i is)),
-    (λ each. All-from_recursion (λ (r : RowParts). RowHolds r x) (map (local_supply_row lib) (instances_of lib.components t))
-        (map_from (λ (r : RowParts). RowHolds r x) (local_supply_row lib) (instances_of lib.components t)
-        (instances_from (λ (j : ℕ). RowHolds (local_supply_row lib j) x) lib t (λ i is. (local_row_says i).1 (elim (bool_cases (has arch.comps i)) [
-          | inl on ↦ each i is on
-          | inr off ↦ absent_demands_nothing i off
-        ]))))),
+  -- a present instance is to stand, and an absent one does
+  each_says : (i : ℕ) → RowHolds (local_supply_row lib i) x ↔ (IsTrue (has arch.comps i) → demand_at i ≤ supply_at i)
+  each_says i = (
+    (λ holds on. (local_row_says i).0 holds),
+    (λ stands. (local_row_says i).1 (elim (bool_cases (has arch.comps i)) [ inl on ↦ stands on | inr off ↦ absent_demands_nothing i off ])),
   )
+
+  pub local_supply_says : (t : ℕ) → Says lib arch x (LocalSupply t)
+  local_supply_says t =
+      let rows = instances_of lib.components t in
+      let Stands : ℕ → Type 0 = λ i. IsTrue (has arch.comps i) → demand_at i ≤ supply_at i in
+      chain (all_listed (λ (r : RowParts). RowHolds r x) (map (local_supply_row lib) rows))
+      (chain (all_map (λ (r : RowParts). RowHolds r x) (local_supply_row lib) rows)
+      (chain (all_same (λ i. RowHolds (local_supply_row lib i) x) Stands rows (all_any (λ i. RowHolds (local_supply_row lib i) x ↔ Stands i) each_says rows)) (each_instance lib t Stands)))
 
   pub cost_cap_says : (max : ℕ) → Says lib arch x (CostCap max)
   cost_cap_says max =
