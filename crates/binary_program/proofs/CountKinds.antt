@@ -18,6 +18,7 @@ use Rattle.rows.specs.Row.{term}
 use Rattle.rows.specs.Problem.{IsVectorOf}
 use Rattle.rows.specs.BaseRows.{plus, minus, member_row, at_least, at_most, degree_rows, in_variables, out_variables, edge_variables, in_needs_out_rows, exclusive_rows}
 use Rattle.binary_program.specs.Says.{Says}
+use Rattle.rows.proofs.AllParts.{all_then}
 use Rattle.binary_program.proofs.Counted.{chain, back, pair, moved, all_same, all_any, all_append, all_listed, all_flat, tally, tally-le, any_counts, least_row, needed_row, apart_row, absent_row, Holds, at_least_says, at_most_says, each_says, degree_says, component_value, instances_count, edges_count, in_count, out_count, instances_below, instances_members, edges_below, each_instance, no_in_edges, no_out_edges}
 
 -- equal numbers need one another alike
@@ -47,7 +48,7 @@ module _ (lib : LibraryParts) (right : IsLibrary lib) (arch : ArchitectureParts)
       → AllByRecursion (Holds x) (flat_map rows (instances_of lib.components t)) ↔ EachInstance lib t Q
   each_rows t rows Q says =
       chain (all_flat (Holds x) rows (instances_of lib.components t))
-      (chain (all_same (λ i. AllByRecursion (Holds x) (rows i)) Q (instances_of lib.components t) (all_weaker (λ i. i < length lib.components) (λ i. AllByRecursion (Holds x) (rows i) ↔ Q i) says (instances_of lib.components t) (instances_below lib t)))
+      (chain (all_same (λ i. AllByRecursion (Holds x) (rows i)) Q (instances_of lib.components t) (all_then (λ i. i < length lib.components) (λ i. AllByRecursion (Holds x) (rows i) ↔ Q i) says (instances_of lib.components t) (instances_below lib t)))
       (each_instance lib t Q))
 
   -- a number of present instances in range

@@ -1,5 +1,5 @@
 -- The base rows of a library decide its patterns.
-use Rattle.std.proofs.Common.{◌≡◌, ℕ, ◌+◌, ◌<◌, ◌≤◌, ℤ, pos, ◌+ℤ◌, ◌≤ℤ◌, Bool, true, false, cond, List, [], ◌∷◌, ◌++◌, map, flat_map, length, Option, Some, None, refl, sym, ap, subst, ◌∙◌, arith, if◌then◌else◌}
+use Rattle.std.proofs.Common.{◌≡◌, ℕ, ◌<◌, pos, ◌+ℤ◌, ◌≤ℤ◌, Bool, true, false, List, [], ◌∷◌, ◌++◌, flat_map, Option, Some, None, refl, sym, ◌∙◌, arith, if◌then◌else◌}
 use Rattle.std.specs.Prelude.{◌↔◌, IsTrue}
 use Rattle.std.specs.List.{All, AllByRecursion, slice_get}
 use Rattle.std.specs.Option.{IsSomeAnd}
@@ -17,10 +17,10 @@ use Rattle.arch_model.specs.Architecture.{IsArchitecture}
 use Rattle.arch_model.specs.Pattern.{MeetsPattern}
 use Rattle.arch_model.specs.Member.{member_count}
 use Rattle.rows.specs.Parts.{RowParts}
-use Rattle.rows.specs.Row.{RowHolds, value_of}
+use Rattle.rows.specs.Row.{RowHolds}
 use Rattle.rows.specs.BaseRows.{plus, member_row, edge_rows, requirement_rows, pattern_rows, base_rows_of}
-use Rattle.rows.specs.Problem.{IsVectorOf, IsCandidate, DecidePatterns}
-use Rattle.rows.proofs.EdgeRows.{ends_from_rows, rows_from_ends, holds_from, holds_to}
+use Rattle.rows.specs.Problem.{IsVectorOf, DecidePatterns}
+use Rattle.rows.proofs.EdgeRows.{holds_from, holds_to}
 use Rattle.rows.proofs.VectorLaws.{at_component, edge_rows_say}
 use Rattle.binary_program.specs.Says.{Says}
 use Rattle.binary_program.proofs.Counted.{chain, back, pair, all_listed, all_append, all_flat, all_map, all_same, all_any}
@@ -71,8 +71,7 @@ module _ (lib : LibraryParts) (right : IsLibrary lib) (arch : ArchitectureParts)
       let some = is_there (slice_get lib.components r.sink.0) sink in
       let low = slice_get_within lib.components r.sink.0 some.0 some.1 in
       let short : r.sink.0 < member_count lib = omega arith in
-      let at = at_component lib arch x vector r.sink.0 low in
-      (
+      let at = at_component lib arch x vector r.sink.0 low in (
         (λ holds. sym at ∙ one_to (x r.sink.0) (holds_to (member_count lib) (plus r.sink.0 ∷ []) (pos 1) x (short, tt) holds)),
         (λ on. holds_from (member_count lib) (plus r.sink.0 ∷ []) (pos 1) x (short, tt) (one_from (x r.sink.0) (at ∙ on))),
       )
@@ -103,13 +102,16 @@ decides lib right = record {
   variables = base_rows_below lib;
   exact = λ x. (
     (λ all.
-    let split = (parts lib (λ row. RowHolds row x)).0 all in
-    let some = (edge_rows_say lib x right).0 split.0 in
-    (some.0, some.1, record {
-      architecture = some.2;
-      patterns = (patterns_say lib right some.0 some.2 x some.1).0 split.1.1;
-      sinks = (sinks_say lib right some.0 some.2 x some.1).0 split.1.0;
-    })),
+        let split = (parts lib (λ row. RowHolds row x)).0 all in
+        let some = (edge_rows_say lib x right).0 split.0 in (
+          some.0,
+          some.1,
+          record {
+            architecture = some.2;
+            patterns = (patterns_say lib right some.0 some.2 x some.1).0 split.1.1;
+            sinks = (sinks_say lib right some.0 some.2 x some.1).0 split.1.0;
+          },
+        )),
     (λ some. (parts lib (λ row. RowHolds row x)).1 (
       (edge_rows_say lib x right).1 (some.0, some.1, some.2.architecture),
       ((sinks_say lib right some.0 some.2.architecture x some.1).1 some.2.sinks, (patterns_say lib right some.0 some.2.architecture x some.1).1 some.2.patterns),

@@ -1,8 +1,7 @@
 -- The kinds of patterns that add up costs and supplies: their rows hold exactly where the pattern is met.
-use Rattle.std.proofs.Common.{◌≡◌, ℕ, zero, suc, ◌+◌, ◌<◌, ◌≤◌, ℤ, pos, neg_ℤ, ◌+ℤ◌, ◌-ℤ◌, ◌≤ℤ◌, Bool, true, false, cond, nat_eq, List, [], ◌∷◌, ◌++◌, map, filter, length, Option, Some, None, refl, sym, ap, subst, ◌∙◌, arith, inl, inr, eqb-true}
+use Rattle.std.proofs.Common.{◌≡◌, ℕ, ◌+◌, ◌<◌, ◌≤◌, ℤ, pos, neg_ℤ, ◌+ℤ◌, ◌-ℤ◌, ◌≤ℤ◌, Bool, true, false, cond, nat_eq, List, [], ◌∷◌, ◌++◌, map, filter, length, refl, sym, ap, subst, ◌∙◌, arith, inl, inr, eqb-true}
 use Rattle.std.specs.Prelude.{◌↔◌, IsTrue}
-use Rattle.std.specs.List.{All, AllByRecursion, enumerate_from, slice_get, sum_by}
-use Rattle.std.specs.Option.{option_map_or}
+use Rattle.std.specs.List.{All, AllByRecursion, enumerate_from, sum_by}
 use Rattle.std.proofs.lemmas.Int.{ints}
 use Rattle.std.proofs.lemmas.List.Elements.{All-from_recursion, recursion_from_All}
 use Rattle.arch_model.specs.declared.template.Component.{Component}
@@ -13,13 +12,13 @@ use Rattle.arch_model.specs.Parts.{LibraryParts, ArchitectureParts}
 use Rattle.arch_model.specs.Library.{IsLibrary}
 use Rattle.arch_model.specs.Architecture.{IsArchitecture, cost_of, present, present_edges}
 use Rattle.arch_model.specs.Member.{member_count}
-use Rattle.arch_model.specs.Pattern.{at_component, is_instance, edges_into, edges_out_of}
+use Rattle.arch_model.specs.Pattern.{at_component, edges_into, edges_out_of}
 use Rattle.arch_model.specs.Template.{instances_of}
 use Rattle.arch_model.proofs.Members.{bool_cases}
 use Rattle.rows.specs.declared.row.Term.{Term}
 use Rattle.rows.specs.Parts.{RowParts}
 use Rattle.rows.specs.Row.{int_sum_by, term, value_of, RowHolds, row_of}
-use Rattle.rows.specs.BaseRows.{chosen_edges, cost_terms, total_supply_rows, local_supply_row}
+use Rattle.rows.specs.BaseRows.{chosen_edges, cost_terms, local_supply_row}
 use Rattle.rows.specs.Problem.{IsVectorOf}
 use Rattle.rows.proofs.IntSums.{int_sum_by-append}
 use Rattle.rows.proofs.AllParts.{all_joined}
