@@ -24,3 +24,6 @@ mod terms;
 pub use adding::row_from;
 pub use building::problem_of;
 pub use cubes::{architecture_of, cube_of};
+
+#[cfg(test)]
+mod tests;
