@@ -2,3 +2,4 @@ pub mod Counted
 pub mod CountKinds
 pub mod SumKinds
 pub mod Deciding
+pub mod BuildSums
