@@ -2,4 +2,6 @@ pub mod Counted
 pub mod CountKinds
 pub mod SumKinds
 pub mod Deciding
+pub mod BuildLists
 pub mod BuildSums
+pub mod BuildRows

@@ -31,6 +31,7 @@ fn coefficients(alloc: Global, n: u32, terms: &[Term]) -> Result<Vec<i128>, Memo
 // The coefficients that aren't 0, each at the variable of its place.
 fn nonzero_terms(alloc: Global, coefs: &[i128]) -> Result<Vec<Term>, Memory>
     requires few { length coefs.now ≤ MEMBERS }
+    requires small { All (λ a. unsigned_abs a ≤ 2048 * 10 ^ 12) coefs.now }
     ensures { IfOk result
         (λ v. v.items ≡ filter (λ t. is_nonzero t.coef) (map (λ p. term p.0 p.1) (enumerate_from 0 coefs.now))) }
 {
