@@ -5,3 +5,4 @@ pub mod Deciding
 pub mod BuildLists
 pub mod BuildSums
 pub mod BuildRows
+pub mod BuildTerms

@@ -1,0 +1,75 @@
+-- Variables and terms of a row, as they are built.
+use Rattle.std.proofs.Common.{◌≡◌, ℕ, ◌+◌, ◌<◌, ◌≤◌, ℤ, Bool, not, nat_eq, List, [], ◌∷◌, map, filter, length, get_or, take, refl, sym, ap, subst, ◌∙◌, arith}
+use Rattle.std.specs.List.{All, enumerate_from}
+use Rattle.std.proofs.lemmas.List.{length-map, get_or-map}
+use Rattle.std.proofs.lemmas.List.Elements.{All-map, All-filter, All-from_get_or}
+use Rattle.std.proofs.lemmas.List.FromFn.{length-enumerate_from, get_or-enumerate_from}
+use Rattle.std.proofs.lemmas.List.Filters.{length-filter_both}
+use Rattle.arch_model.specs.declared.sets.VarId.{VarId}
+use Rattle.arch_model.specs.declared.template.Component.{Component}
+use Rattle.arch_model.specs.declared.template.Edge.{Edge}
+use Rattle.arch_model.specs.Parts.{LibraryParts}
+use Rattle.rows.specs.declared.row.Term.{Term}
+use Rattle.rows.specs.Row.{term}
+use Rattle.binary_program.specs.declared.terms.EdgeKind.{EdgeKind}
+use Rattle.binary_program.specs.Terms.{numbers_of, AreVariables, is_of_kind}
+use Rattle.binary_program.proofs.BuildLists.{picked, picked_all}
+
+-- a variable from its number
+abbrev pub var : ℕ → VarId
+var n = record { 0 = n }
+
+abbrev pub var_of : {X : Type 0} → ℕ × X → VarId
+var_of p = var p.0
+
+-- whether a component is of a type
+abbrev pub of_type : ℕ → ℕ × Component → Bool
+of_type t p = nat_eq p.1.of t
+
+-- the numbers of the variables of the items that pass
+numbers-var : {X : Type 0} (ps : List (ℕ × X)) → numbers_of (map var_of ps) ≡ map (λ p. p.0) ps
+numbers-var [] = refl
+numbers-var (p ∷ ps) = ap (λ l. p.0 ∷ l) (numbers-var ps)
+
+pub numbers-picked : {X : Type 0} (q : ℕ × X → Bool) (k : ℕ) (xs : List X) → numbers_of (picked q var_of k xs) ≡ map (λ p. p.0) (filter q (enumerate_from k xs))
+numbers-picked q k xs = numbers-var (filter q (enumerate_from k xs))
+
+-- they are few, and below the number after the last item
+numbered_below : {X : Type 0} (k n : ℕ) (xs : List X) → k + length xs ≤ n → All (λ p. p.0 < n) (enumerate_from k xs)
+numbered_below k n xs room = λ i p short.
+    let here : i < length xs = omega (arith, short, length-enumerate_from k xs) in
+    rw (get_or-enumerate_from k xs i p here) (omega arith)
+
+pub picked_variables : {X : Type 0} (q : ℕ × X → Bool) (k n m : ℕ) (xs : List X) → k + length xs ≤ n → length xs ≤ m → AreVariables n m (picked q var_of k xs)
+picked_variables q k n m xs room few = record {
+  few =
+      let kept = length-filter_both q (λ p. not (q p)) (λ p. refl) (enumerate_from k xs) in
+      omega (arith, length-map (filter q (enumerate_from k xs)) var_of, kept, length-enumerate_from k xs);
+  below = All-map (λ v. v.0 < n) var_of (filter q (enumerate_from k xs)) (All-filter q (λ p. p.0 < n) (enumerate_from k xs) (numbered_below k n xs room));
+}
+
+-- the same at the end of a loop over a slice that a library lends
+pub numbers_all : {X : Type 0} (q : ℕ × X → Bool) (k : ℕ) (xs ys : List X) (i : ℕ) (vars : List VarId) → xs ≡ ys → length xs ≤ i → vars ≡ picked q var_of k (take i xs)
+    → numbers_of vars ≡ map (λ p. p.0) (filter q (enumerate_from k ys))
+numbers_all q k xs ys i vars same past made = ap numbers_of (made ∙ picked_all q var_of k xs ys i same past) ∙ numbers-picked q k ys
+
+pub variables_all : {X : Type 0} (q : ℕ × X → Bool) (k n m : ℕ) (xs ys : List X) (i : ℕ) (vars : List VarId) → xs ≡ ys → length xs ≤ i → vars ≡ picked q var_of k (take i xs)
+    → k + length ys ≤ n → length ys ≤ m → AreVariables n m vars
+variables_all q k n m xs ys i vars same past made room few = subst (AreVariables n m) (sym (made ∙ picked_all q var_of k xs ys i same past)) (picked_variables q k n m ys room few)
+
+-- whether an edge is of a kind, and a variable whose number is known
+abbrev pub of_kind : LibraryParts → EdgeKind → ℕ × Edge → Bool
+of_kind lib kind p = is_of_kind lib kind p.1
+
+pub var_is : (v : VarId) (n : ℕ) → v.0 ≡ n → v ≡ var n
+var_is v n e i = record { 0 = e i }
+
+-- a term with this coefficient at each of some variables
+abbrev pub at_coef : ℤ → ℕ → Term
+at_coef a v = term v a
+
+abbrev pub blank_var : VarId
+blank_var = var 0
+
+abbrev pub number : VarId → ℕ
+number v = v.0
