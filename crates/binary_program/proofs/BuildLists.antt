@@ -87,3 +87,9 @@ pub joined_number_more : {X Y : Type 0} (g : X → ℕ) (f : ℕ → List Y) (xs
 joined_number_more g f xs i d start before after here so_far step =
     step ∙ ap (λ l. l ++ f (g (get_or xs i d))) so_far ∙ append_assoc start (flat_map f (map g (take i xs))) (f (g (get_or xs i d)))
     ∙ ap (λ l. start ++ l) (sym (ap (flat_map f) (map_more g xs i d here) ∙ flat_map-append f (map g (take i xs)) (g (get_or xs i d) ∷ []) ∙ ap (λ l. flat_map f (map g (take i xs)) ++ l) (append-nil (f (g (get_or xs i d))))))
+
+-- the same where each item is seen with its number
+pub numbered_more : {X Y : Type 0} (f : ℕ × X → Y) (k : ℕ) (xs : List X) (i j : ℕ) (d : X) (start before after : List Y) → i < length xs → k + i ≡ j
+    → before ≡ start ++ map f (enumerate_from k (take i xs)) → after ≡ before ++ f (j, get_or xs i d) ∷ [] → after ≡ start ++ map f (enumerate_from k (take (i + 1) xs))
+numbered_more f k xs i j d start before after here e so_far step =
+    step ∙ ap (λ l. l ++ f (j, get_or xs i d) ∷ []) so_far ∙ append_assoc start (map f (enumerate_from k (take i xs))) (f (j, get_or xs i d) ∷ []) ∙ ap (λ l. start ++ l) (sym (made_more f k xs i j d here e))

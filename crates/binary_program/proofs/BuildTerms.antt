@@ -1,7 +1,9 @@
 -- Variables and terms of a row, as they are built.
-use Rattle.std.proofs.Common.{◌≡◌, ℕ, ◌+◌, ◌<◌, ◌≤◌, ℤ, Bool, not, nat_eq, List, [], ◌∷◌, map, filter, length, get_or, take, refl, sym, ap, subst, ◌∙◌, arith}
+use Rattle.std.proofs.Common.{◌≡◌, ℕ, ◌+◌, ◌^◌, ◌<◌, ◌≤◌, ℤ, pos, neg_ℤ, ◌-ℤ◌, to_z, of_z, Bool, not, nat_eq, List, [], ◌∷◌, ◌++◌, map, filter, length, get_or, take, refl, sym, ap, subst, ◌∙◌, arith}
+use Rattle.std.specs.Int.{w128}
 use Rattle.std.specs.List.{All, enumerate_from}
-use Rattle.std.proofs.lemmas.List.{length-map, get_or-map}
+use Rattle.std.proofs.lemmas.List.{take_all, length-map, length-append}
+use Rattle.std.proofs.lemmas.Int.{ints}
 use Rattle.std.proofs.lemmas.List.Elements.{All-map, All-filter, All-from_get_or}
 use Rattle.std.proofs.lemmas.List.FromFn.{length-enumerate_from, get_or-enumerate_from}
 use Rattle.std.proofs.lemmas.List.Filters.{length-filter_both}
@@ -9,11 +11,15 @@ use Rattle.arch_model.specs.declared.sets.VarId.{VarId}
 use Rattle.arch_model.specs.declared.template.Component.{Component}
 use Rattle.arch_model.specs.declared.template.Edge.{Edge}
 use Rattle.arch_model.specs.Parts.{LibraryParts}
+use Rattle.arch_model.specs.Library.{IsLibrary}
+use Rattle.arch_model.specs.Member.{member_count}
+use Rattle.arch_model.proofs.Ranges.{blank_component, component_ranges}
 use Rattle.rows.specs.declared.row.Term.{Term}
 use Rattle.rows.specs.Row.{term}
+use Rattle.rows.specs.BaseRows.{costs_of, member_cost_of, cost_terms}
 use Rattle.binary_program.specs.declared.terms.EdgeKind.{EdgeKind}
 use Rattle.binary_program.specs.Terms.{numbers_of, AreVariables, is_of_kind}
-use Rattle.binary_program.proofs.BuildLists.{picked, picked_all}
+use Rattle.binary_program.proofs.BuildLists.{picked, picked_all, numbered_more}
 
 -- a variable from its number
 abbrev pub var : ℕ → VarId
@@ -73,3 +79,47 @@ blank_var = var 0
 
 abbrev pub number : VarId → ℕ
 number v = v.0
+
+-- minus what a member costs
+abbrev pub minus_cost : ℕ × ℕ → Term
+minus_cost p = term p.0 (neg_ℤ (pos p.1))
+
+-- a component's supply less its demand
+abbrev pub balance : ℕ × Component → Term
+balance p = term p.0 (pos p.1.supply -ℤ pos p.1.demand)
+
+-- what the members cost, one after another
+pub length-costs_of : (lib : LibraryParts) → length (costs_of lib) ≡ member_count lib
+length-costs_of lib = grind (arith, length-append {A = ℕ}, length-map lib.components (λ (c : Component). c.cost), length-map lib.edges (λ (e : Edge). e.cost))
+
+pub costs_more : (lib : LibraryParts) (v count n : ℕ) (t : Term) (before after : List Term) → count ≡ member_count lib → v < count → n ≡ member_cost_of lib v → t ≡ term v (neg_ℤ (pos n))
+    → before ≡ map minus_cost (enumerate_from 0 (take v (costs_of lib))) → after ≡ before ++ t ∷ [] → after ≡ map minus_cost (enumerate_from 0 (take (v + 1) (costs_of lib)))
+costs_more lib v count n t before after all short cost is so_far step =
+    let here : v < length (costs_of lib) = omega (arith, length-costs_of lib) in
+    numbered_more minus_cost 0 (costs_of lib) v v 0 [] before after here (omega arith) so_far (step ∙ ap (λ u. before ++ u ∷ []) (is ∙ ap (λ m. term v (neg_ℤ (pos m))) cost))
+
+pub costs_all : (lib : LibraryParts) (v count : ℕ) (items : List Term) → count ≡ member_count lib → count ≤ v → items ≡ map minus_cost (enumerate_from 0 (take v (costs_of lib))) → items ≡ cost_terms lib
+costs_all lib v count items all past made =
+    let far : length (costs_of lib) ≤ v = omega (arith, length-costs_of lib) in
+    made ∙ ap (λ l. map minus_cost (enumerate_from 0 l)) (take_all v (costs_of lib) far)
+
+-- supplies and demands are small
+pub supplies_small : (lib : LibraryParts) → IsLibrary lib → All (λ c. c.supply ≤ 10 ^ 12) lib.components
+supplies_small = component_ranges (λ c. c.supply ≤ 10 ^ 12) (λ t i row is. is.supply)
+
+pub demands_small : (lib : LibraryParts) → IsLibrary lib → All (λ c. c.demand ≤ 10 ^ 12) lib.components
+demands_small = component_ranges (λ c. c.demand ≤ 10 ^ 12) (λ t i row is. is.demand)
+
+-- a difference of two of them, as the code has it
+pub difference_is : (m n : ℕ) → m ≤ 10 ^ 12 → n ≤ 10 ^ 12 → to_z w128 (of_z w128 (to_z w128 m -ℤ to_z w128 n)) ≡ pos m -ℤ pos n
+difference_is m n h k = omega (arith, ints)
+
+pub balances_more : (lib : LibraryParts) (xs : List Component) (i : ℕ) (before after : List Term) → IsLibrary lib → xs ≡ lib.components → i < length xs
+    → before ≡ map balance (enumerate_from 0 (take i xs))
+    → after ≡ before ++ term i (to_z w128 (of_z w128 (to_z w128 (get_or xs i blank_component).supply -ℤ to_z w128 (get_or xs i blank_component).demand))) ∷ []
+    → after ≡ map balance (enumerate_from 0 (take (i + 1) xs))
+balances_more lib xs i before after right same here so_far step =
+    let supplies : All (λ c. c.supply ≤ 10 ^ 12) xs = subst (All (λ (c : Component). c.supply ≤ 10 ^ 12)) (sym same) (supplies_small lib right) in
+    let demands : All (λ c. c.demand ≤ 10 ^ 12) xs = subst (All (λ (c : Component). c.demand ≤ 10 ^ 12)) (sym same) (demands_small lib right) in
+    numbered_more balance 0 xs i i blank_component [] before after here (omega arith) so_far
+    (step ∙ ap (λ z. before ++ term i z ∷ []) (difference_is (get_or xs i blank_component).supply (get_or xs i blank_component).demand (supplies i blank_component here) (demands i blank_component here)))
