@@ -1,7 +1,9 @@
 -- Variables and terms of a row, as they are built.
 use Rattle.std.proofs.Common.{◌≡◌, ℕ, ◌+◌, ◌^◌, ◌<◌, ◌≤◌, ℤ, pos, neg_ℤ, ◌-ℤ◌, to_z, of_z, Bool, not, nat_eq, List, [], ◌∷◌, ◌++◌, map, filter, length, get_or, take, refl, sym, ap, subst, ◌∙◌, arith}
 use Rattle.std.specs.Int.{w128}
-use Rattle.std.specs.List.{All, enumerate_from}
+use Rattle.std.specs.List.{All, enumerate_from, slice_get}
+use Rattle.std.specs.Option.{option_map_or}
+use Rattle.std.proofs.lemmas.Option.{slice_get_past}
 use Rattle.std.proofs.lemmas.List.{take_all, length-map, length-append}
 use Rattle.std.proofs.lemmas.Int.{ints}
 use Rattle.std.proofs.lemmas.List.Elements.{All-map, All-filter, All-from_get_or}
@@ -13,6 +15,7 @@ use Rattle.arch_model.specs.declared.template.Edge.{Edge}
 use Rattle.arch_model.specs.Parts.{LibraryParts}
 use Rattle.arch_model.specs.Library.{IsLibrary}
 use Rattle.arch_model.specs.Member.{member_count}
+use Rattle.arch_model.specs.Pattern.{at_component}
 use Rattle.arch_model.proofs.Ranges.{blank_component, component_ranges}
 use Rattle.rows.specs.declared.row.Term.{Term}
 use Rattle.rows.specs.Row.{term}
@@ -123,3 +126,38 @@ balances_more lib xs i before after right same here so_far step =
     let demands : All (λ c. c.demand ≤ 10 ^ 12) xs = subst (All (λ (c : Component). c.demand ≤ 10 ^ 12)) (sym same) (demands_small lib right) in
     numbered_more balance 0 xs i i blank_component [] before after here (omega arith) so_far
     (step ∙ ap (λ z. before ++ term i z ∷ []) (difference_is (get_or xs i blank_component).supply (get_or xs i blank_component).demand (supplies i blank_component here) (demands i blank_component here)))
+
+-- the edges into a component and out of it, and what each brings to it or asks of it
+abbrev pub into : ℕ → ℕ × Edge → Bool
+into i p = nat_eq p.1.head.0 i
+
+abbrev pub out_of : ℕ → ℕ × Edge → Bool
+out_of i p = nat_eq p.1.tail.0 i
+
+abbrev pub brought : LibraryParts → ℕ × Edge → Term
+brought lib p = term p.0 (pos (at_component lib (λ c. c.supply) p.1.tail.0))
+
+abbrev pub asked : LibraryParts → ℕ × Edge → Term
+asked lib p = term p.0 (neg_ℤ (pos (at_component lib (λ c. c.demand) p.1.head.0)))
+
+-- a number that a component gives is 0 where there is no such component
+pub at_none : (lib : LibraryParts) (f : Component → ℕ) (xs : List Component) (c : ℕ) → xs ≡ lib.components → length xs ≤ c → 0 ≡ at_component lib f c
+at_none lib f xs c same past = sym (ap (λ l. option_map_or f (slice_get l c) 0) (sym same) ∙ ap (λ o. option_map_or f o 0) (slice_get_past xs c past))
+
+-- a fact of all components of a library holds of one that was read
+pub of_read : (P : Component → Type 0) (lib : LibraryParts) (xs : List Component) (c : ℕ) (x : Component) → All P lib.components → xs ≡ lib.components → c < length xs → x ≡ get_or xs c x → P x
+of_read P lib xs c x all same short is = subst P (sym (is ∙ ap (λ l. get_or l c x) same)) (all c x (omega (arith, short, ap length same)))
+
+-- a small number, as the code has it
+pub plain_of : (n : ℕ) → n ≤ 10 ^ 12 → to_z w128 n ≡ pos n
+plain_of n h = omega (arith, ints)
+
+-- a term from what its parts are
+abbrev pub at_var : VarId → ℤ → Term
+at_var v a = record { var = v; coef = a }
+
+pub term_is : (v : VarId) (a b : ℤ) (n : ℕ) → v.0 ≡ n → a ≡ b → at_var v a ≡ term n b
+term_is v a b n e f i = record { var = record { 0 = e i }; coef = f i }
+
+pub minus_times_is : (t : Term) (v w m n : ℕ) → t ≡ term v (neg_ℤ (pos m)) → v ≡ w → m ≡ n → t ≡ term w (neg_ℤ (pos n))
+minus_times_is t v w m n is e f = is ∙ ap (λ u. term u (neg_ℤ (pos m))) e ∙ ap (λ k. term w (neg_ℤ (pos k))) f
