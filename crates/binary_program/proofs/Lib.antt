@@ -6,3 +6,4 @@ pub mod BuildLists
 pub mod BuildSums
 pub mod BuildRows
 pub mod BuildTerms
+pub mod BuildEdgeRows
