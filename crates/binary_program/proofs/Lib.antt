@@ -7,3 +7,4 @@ pub mod BuildSums
 pub mod BuildRows
 pub mod BuildTerms
 pub mod BuildEdgeRows
+pub mod BuildRanges

@@ -47,7 +47,8 @@ fn push_pattern_rows(
 
 // The base rows of a library, in the order of their numbers.
 fn base_rows(alloc: Global, lib: &Library) -> Result<Vec<Row>, Memory>
-    ensures { IfOk result (λ rows. rows.items ≡ base_rows_of lib.now) }
+    ensures rows { IfOk result (λ rows. rows.items ≡ base_rows_of lib.now) }
+    ensures decides { IfOk result (λ rows. DecidePatterns lib.now rows.items) }
 {
     let mut rows = Vec::new(alloc);
     push_edge_rows(alloc, &mut rows, lib)?;

@@ -121,7 +121,8 @@ pub(crate) fn push_terms(terms: &mut Vec<Term>, vars: &[VarId], coef: i128) -> R
 
 /// Minus the cost of all present members.
 pub(crate) fn cost_terms(alloc: Global, lib: &Library) -> Result<Vec<Term>, Memory>
-    ensures { IfOk result (λ terms. terms.items ≡ base.cost_terms lib.now) }
+    ensures value { IfOk result (λ terms. terms.items ≡ base.cost_terms lib.now) }
+    ensures terms { IfOk result (λ terms. spec.AreTerms (member_count lib.now) MEMBERS terms.items) }
 {
     let mut terms = Vec::new(alloc);
     for v in 0..variable_count(lib) {
@@ -133,8 +134,9 @@ pub(crate) fn cost_terms(alloc: Global, lib: &Library) -> Result<Vec<Term>, Memo
 
 /// The supply of all present components less their demand.
 pub(crate) fn balance_terms(alloc: Global, lib: &Library) -> Result<Vec<Term>, Memory>
-    ensures { IfOk result (λ terms. terms.items
+    ensures value { IfOk result (λ terms. terms.items
         ≡ map (λ p. term p.0 (pos p.1.supply -ℤ pos p.1.demand)) (enumerate_from 0 lib.now.components)) }
+    ensures terms { IfOk result (λ terms. spec.AreTerms (member_count lib.now) COMPONENTS terms.items) }
 {
     let mut terms = Vec::new(alloc);
     for (c, component) in lib.components().iter().enumerate() {
@@ -170,10 +172,12 @@ fn demand(lib: &Library, c: CompId) -> u64
 
 /// Appends what the edges into component i bring to it: the supplies of their tails.
 pub(crate) fn push_supplies(terms: &mut Vec<Term>, lib: &Library, i: CompId) -> Result<(), Memory>
-    ensures { OnOk result (terms.new.items
+    ensures value { OnOk result (terms.new.items
         ≡ terms.old.items
         ++ map (λ p. term p.0 (pos (pattern.at_component lib.now (λ c. c.supply) p.1.tail.0)))
         (base.chosen_edges lib.now (λ e. nat_eq e.head.0 i.0))) }
+    ensures terms { OnOk result ((k : ℕ) → spec.AreTerms (member_count lib.now) k terms.old.items
+        → spec.AreTerms (member_count lib.now) (k + EDGES) terms.new.items) }
 {
     for (e, edge) in lib.edges().iter().enumerate() {
         if edge.head == i {
@@ -188,10 +192,12 @@ pub(crate) fn push_supplies(terms: &mut Vec<Term>, lib: &Library, i: CompId) -> 
 
 /// Appends what the edges out of component i ask of it: minus the demands of their heads.
 pub(crate) fn push_demands(terms: &mut Vec<Term>, lib: &Library, i: CompId) -> Result<(), Memory>
-    ensures { OnOk result (terms.new.items
+    ensures value { OnOk result (terms.new.items
         ≡ terms.old.items
         ++ map (λ p. term p.0 (neg_ℤ (pos (pattern.at_component lib.now (λ c. c.demand) p.1.head.0))))
         (base.chosen_edges lib.now (λ e. nat_eq e.tail.0 i.0))) }
+    ensures terms { OnOk result ((k : ℕ) → spec.AreTerms (member_count lib.now) k terms.old.items
+        → spec.AreTerms (member_count lib.now) (k + EDGES) terms.new.items) }
 {
     for (e, edge) in lib.edges().iter().enumerate() {
         if edge.tail == i {
