@@ -130,3 +130,27 @@ with_asked lib q k start after right are made =
     (terms_both (member_count lib) k EDGES start (picked q (asked lib) (length lib.components) lib.edges) are
     (picked_terms q (λ (p : ℕ × Edge). neg_ℤ (pos (at_component lib (λ c. c.demand) p.1.head.0))) (length lib.components) (member_count lib) EDGES lib.edges blank_edge (omega arith) right.few_edges
     (λ i short. minus_small (at_component lib (λ c. c.demand) (get_or lib.edges i blank_edge).head.0) (10 ^ 12) (at_small lib (λ c. c.demand) (get_or lib.edges i blank_edge).head.0 (demands_small lib right)))))
+
+-- the terms of the rows of patterns, as the code builds them from a list that is empty
+abbrev each_at : ℤ → List VarId → List Term
+each_at a vars = map (at_coef a) (numbers_of vars)
+
+from_none : (a : ℤ) (vars : List VarId) (start made : List Term) → start ≡ [] → made ≡ start ++ each_at a vars → made ≡ each_at a vars
+from_none a vars start made none step = step ∙ ap (λ l. l ++ each_at a vars) none
+
+pub terms_of_each : (n : ℕ) (a : ℤ) (vars : List VarId) (start made lent : List Term) → AreVariables n EDGES vars → unsigned_abs a ≤ 10 ^ 12 → start ≡ [] → made ≡ start ++ each_at a vars → lent ≡ made → AreTerms n 2048 lent
+terms_of_each n a vars start made lent are small none step same =
+    terms_along n EDGES 2048 lent (each_at a vars) (same ∙ from_none a vars start made none step) (omega arith) (terms_at n EDGES a vars small are)
+
+pub each_then_one : (n v m : ℕ) (t : Term) (vars : List VarId) (start made after lent : List Term) → AreVariables n EDGES vars → v < n → m ≤ 10 ^ 12 → t ≡ term v (neg_ℤ (pos m))
+    → start ≡ [] → made ≡ start ++ each_at (pos 1) vars → after ≡ made ++ t ∷ [] → lent ≡ after → AreTerms n 2048 lent
+each_then_one n v m t vars start made after lent are below small is none step more same =
+    terms_along n (EDGES + 1) 2048 lent after same (omega arith)
+    (cost_push n EDGES v m made after t (terms_along n EDGES EDGES made (each_at (pos 1) vars) (from_none (pos 1) vars start made none step) (omega arith) (terms_at n EDGES (pos 1) vars (omega arith) are)) is small below more)
+
+pub one_then_each : (n v m : ℕ) (t : Term) (vars : List VarId) (start first after lent : List Term) → AreVariables n EDGES vars → v < n → m ≤ 10 ^ 12 → t ≡ term v (neg_ℤ (pos m))
+    → start ≡ [] → first ≡ start ++ t ∷ [] → after ≡ first ++ each_at (negsuc 0) vars → lent ≡ after → AreTerms n 2048 lent
+one_then_each n v m t vars start first after lent are below small is none one step same =
+    terms_along n (suc EDGES) 2048 lent (term v (neg_ℤ (pos m)) ∷ each_at (negsuc 0) vars)
+    (same ∙ step ∙ ap (λ l. l ++ each_at (negsuc 0) vars) (one ∙ ap (λ l. l ++ t ∷ []) none ∙ ap (λ u. u ∷ []) is)) (omega arith)
+    (terms_more n EDGES (term v (neg_ℤ (pos m))) (each_at (negsuc 0) vars) (minus_small m (10 ^ 12) small) below (terms_at n EDGES (negsuc 0) vars (omega arith) are))
