@@ -8,3 +8,4 @@ pub mod BuildRows
 pub mod BuildTerms
 pub mod BuildEdgeRows
 pub mod BuildRanges
+pub mod BuildPatternRows
