@@ -9,3 +9,4 @@ pub mod BuildTerms
 pub mod BuildEdgeRows
 pub mod BuildRanges
 pub mod BuildPatternRows
+pub mod CubeLaws

@@ -1,12 +1,15 @@
 // Architectures as cubes in which nothing is free, and back.
-ghost use Rattle.std.specs.Prelude.{◌≡◌, ℕ, ◌+◌, ◌<◌, ◌&&◌, nat_lt, length};
+ghost use Rattle.std.specs.Prelude.{◌≡◌, ℕ, ◌+◌, ◌≤◌, ◌<◌, ◌&&◌, nat_lt, length};
 ghost use Rattle.arch_model.specs.Architecture.{IsArchitecture};
 ghost use Rattle.arch_model.specs.Member as member;
 ghost use Rattle.arch_model.specs.Parts.{ArchitectureParts};
 ghost use Rattle.arch_model.specs.Set.{has};
 ghost use Rattle.binary_program.specs.CubeOf.{FixesAll, IsCubeOf};
 
-use arch_model::{Architecture, CompId, CompSet, Component, Edge, EdgeId, EdgeSet, Library, VarId};
+use arch_model::limits::{COMPONENTS, EDGES};
+use arch_model::{
+    Architecture, CompId, CompSet, Component, Edge, EdgeId, EdgeSet, Library, MemberSet, VarId,
+};
 use rows::{Cube, variable_count};
 
 // Whether a member is present in an architecture.
@@ -30,41 +33,40 @@ pub fn cube_of(lib: &Library, arch: &Architecture) -> Cube
     ensures only { (other : ArchitectureParts) → IsArchitecture lib.now other → IsCubeOf lib.now other result → other ≡ arch.now }
 {
     let mut cube = Cube::whole();
-    for v in 0..variable_count(lib) {
-        let v = VarId(v);
+    for i in 0..variable_count(lib) {
+        let v = VarId(i);
         cube.fix(v, is_present(lib, arch, v));
     }
     cube
 }
 
-// The components that a cube fixes to 1.
-fn components_at_one(lib: &Library, cube: &Cube) -> CompSet
-    ensures { (c : ℕ) → has result c ≡ (nat_lt c (length lib.now.components) && has cube.now.ones c) }
+// The components among some members: those below the number of components.
+fn components_among(members: &MemberSet, components: u32) -> CompSet
+    requires { components ≤ COMPONENTS }
+    ensures { (c : ℕ) → has result c ≡ (nat_lt c components && has members.now c) }
 {
-    let ones = cube.ones();
     let mut comps = CompSet::new();
-    for c in 0..lib.components().len() as u32 {
-        if ones.has(VarId(c)) {
+    for c in 0..components {
+        if members.has(VarId(c)) {
             comps.put(CompId(c));
         }
     }
     comps
 }
 
-// The edges that a cube fixes to 1.
-fn edges_at_one(lib: &Library, cube: &Cube) -> EdgeSet
-    ensures { (e : ℕ) → has result e
-        ≡ (nat_lt e (length lib.now.edges) && has cube.now.ones (length lib.now.components + e)) }
+// The edges among some members: those from the number of components on.
+fn edges_among(members: &MemberSet, components: u32, edges: u32) -> EdgeSet
+    requires few_components { components ≤ COMPONENTS }
+    requires few_edges { edges ≤ EDGES }
+    ensures { (e : ℕ) → has result e ≡ (nat_lt e edges && has members.now (components + e)) }
 {
-    let ones = cube.ones();
-    let components = lib.components().len() as u32;
-    let mut edges = EdgeSet::new();
-    for e in 0..lib.edges().len() as u32 {
-        if ones.has(VarId(components + e)) {
-            edges.put(EdgeId(e));
+    let mut chosen = EdgeSet::new();
+    for e in 0..edges {
+        if members.has(VarId(components + e)) {
+            chosen.put(EdgeId(e));
         }
     }
-    edges
+    chosen
 }
 
 /// The architecture of a cube in which nothing is free: the members that are fixed to 1, which are
@@ -75,5 +77,11 @@ pub fn architecture_of(lib: &Library, cube: &Cube) -> Architecture
     ensures architecture { IsArchitecture lib.now result }
     ensures cube { IsCubeOf lib.now result cube.now }
 {
-    Architecture::new(components_at_one(lib, cube), edges_at_one(lib, cube))
+    let ones = cube.ones();
+    let components = lib.components().len() as u32;
+    let edges = lib.edges().len() as u32;
+    Architecture::new(
+        components_among(&ones, components),
+        edges_among(&ones, components, edges),
+    )
 }
