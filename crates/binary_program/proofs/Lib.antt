@@ -3,3 +3,11 @@ pub mod CountKinds
 pub mod SumKinds
 pub mod RowCounts
 pub mod Deciding
+pub mod BuildLists
+pub mod BuildSums
+pub mod BuildRows
+pub mod BuildTerms
+pub mod BuildEdgeRows
+pub mod BuildRanges
+pub mod BuildPatternRows
+pub mod CubeLaws

@@ -1,2 +1,3 @@
 pub mod CubeOf
 pub mod Says
+pub mod Terms

@@ -11,4 +11,19 @@
 //! `problem_of` takes memory.
 #![tactic(auto)]
 
+mod adding;
+mod building;
+mod condition_rows;
+mod cubes;
+mod degree_rows;
+mod edge_rows;
 pub mod laws;
+mod sum_rows;
+mod terms;
+
+pub use adding::row_from;
+pub use building::problem_of;
+pub use cubes::{architecture_of, cube_of};
+
+#[cfg(test)]
+mod tests;

@@ -1,0 +1,7 @@
+use Rattle.std.proofs.Common.{◌≡◌, ◌++◌, length, take}
+use Rattle.binary_program.proofs.BuildLists.{picked}
+use Rattle.binary_program.proofs.BuildTerms.{into, brought}
+use Rattle.binary_program.proofs.terms.push_supplies.Given as goal
+
+abbrev pub invariant-loop-e : goal.invariant-loop-e
+invariant-loop-e l = l.terms.items ≡ l.initial.terms.items ++ picked (into l.i.0) (brought l.lib) (length l.lib.components) (take l.e l.edge-items)
