@@ -16,8 +16,8 @@ use Rattle.arch_model.proofs.Ranges.{edge_tails, edge_heads}
 use Rattle.arch_model.proofs.SetLaws.{has-empty, has-put, same_set}
 use Rattle.arch_model.proofs.Vectors.{keeps_ends, from_ends}
 use Rattle.rows.specs.Parts.{CubeParts}
-use Rattle.rows.specs.Cube.{whole, fixed_at, is_free}
-use Rattle.binary_program.specs.CubeOf.{IsCubeOf}
+use Rattle.rows.specs.Cube.{IsCube, whole, fixed_at, is_free}
+use Rattle.binary_program.specs.CubeOf.{FixesAll, IsCubeOf}
 
 -- one more number is below the next
 below_here : (k n : ℕ) → n ≡ k → nat_lt k (n + 1) ≡ true
@@ -114,7 +114,7 @@ same_below s t n alike s_past t_past = same_set s t (λ k. elim (cases_lt k n) [
   | inr past ↦ s_past k past ∙ sym (t_past k past)
 ])
 
-same_architecture : (lib : LibraryParts) (a b : ArchitectureParts) → IsArchitecture lib a → IsArchitecture lib b → ((v : ℕ) → v < member_count lib → is_present lib a v ≡ is_present lib b v) → a ≡ b
+pub same_architecture : (lib : LibraryParts) (a b : ArchitectureParts) → IsArchitecture lib a → IsArchitecture lib b → ((v : ℕ) → v < member_count lib → is_present lib a v ≡ is_present lib b v) → a ≡ b
 same_architecture lib a b isa isb alike =
     let comps = same_below a.comps b.comps (length lib.components)
     (λ c here. let inside : c < member_count lib = omega arith in sym (present_component lib a c here) ∙ alike c inside ∙ present_component lib b c here)
@@ -183,3 +183,46 @@ cube_ends lib arch n cube so_far all = record {
   full = λ v. so_far.fixed v ∙ ap (nat_lt v) all;
   ones = λ v short. let here : v < n = omega arith in so_far.ones v ∙ ap (λ b. b && is_present lib arch v) (lt-ltb v n here);
 }
+
+-- and an architecture has no other cube
+same_cube : (lib : LibraryParts) (arch : ArchitectureParts) (a b : CubeParts) → IsCube a → IsCube b → IsCubeOf lib arch a → IsCubeOf lib arch b → b ≡ a
+same_cube lib arch a b ok also of too =
+    let fixed = same_set b.fixed a.fixed (λ v. too.full v ∙ sym (of.full v)) in
+    let ones = same_below b.ones a.ones (member_count lib) (λ v short. too.ones v short ∙ sym (of.ones v short))
+    (none_past b.ones (member_count lib) (λ v on. ltb-true v (member_count lib) (sym (too.full v) ∙ also.within v on)))
+    (none_past a.ones (member_count lib) (λ v on. ltb-true v (member_count lib) (sym (of.full v) ∙ ok.within v on))) in
+    λ i. record { fixed = fixed i; ones = ones i }
+
+pub only_cube : (lib : LibraryParts) (arch : ArchitectureParts) (cube : CubeParts) → IsCube cube → IsCubeOf lib arch cube → (other : CubeParts) → IsCube other → IsCubeOf lib arch other → other ≡ cube
+only_cube lib arch cube ok of other also too = same_cube lib arch cube other ok also of too
+
+-- what is read off a cube in which nothing is free has that cube
+first_only : (b c : Bool) → b ≡ true → (b && c) ≡ c
+first_only true c e = refl
+first_only false c e = let f : false ≡ true = e in cc
+
+cubed_off : (lib : LibraryParts) (cube : CubeParts) (arch : ArchitectureParts) → FixesAll lib cube
+    → ((c : ℕ) → has arch.comps c ≡ (nat_lt c (length lib.components) && has cube.ones c)) → ((e : ℕ) → has arch.edges e ≡ (nat_lt e (length lib.edges) && has cube.ones (length lib.components + e)))
+    → IsCubeOf lib arch cube
+cubed_off lib cube arch full comps edges = record {
+  full = full;
+  ones = λ v short. elim (cases_lt v (length lib.components)) [
+    | inl here ↦ sym (present_component lib arch v here ∙ comps v ∙ first_only (nat_lt v (length lib.components)) (has cube.ones v) (lt-ltb v (length lib.components) here))
+    | inr past ↦
+        let e : ℕ = v - length lib.components in
+        let back : length lib.components + e ≡ v = omega arith in
+        let inside : e < length lib.edges = omega arith in
+        sym (sym (ap (is_present lib arch) back) ∙ present_edge lib arch e ∙ edges e ∙ first_only (nat_lt e (length lib.edges)) (has cube.ones (length lib.components + e)) (lt-ltb e (length lib.edges) inside) ∙ ap (has cube.ones) back)
+  ];
+}
+
+-- the same as the code has it
+pub cubed_off_sets : (lib : LibraryParts) (cube : CubeParts) (members comps edges : Set) (components : List Component) (rows : List Edge) (arch : ArchitectureParts) → FixesAll lib cube
+    → members ≡ cube.ones → components ≡ lib.components → rows ≡ lib.edges → arch ≡ record { comps = comps; edges = edges }
+    → ((c : ℕ) → has comps c ≡ (nat_lt c (length components) && has members c)) → ((e : ℕ) → has edges e ≡ (nat_lt e (length rows) && has members (length components + e)))
+    → IsCubeOf lib arch cube
+cubed_off_sets lib cube members comps edges components rows arch full same_members same_components same_rows made comps_are edges_are =
+    cubed_off lib cube arch full
+    (λ c. ap (λ a. has a.comps c) made ∙ comps_are c ∙ ap (λ n. nat_lt c n && has members c) (ap length same_components) ∙ ap (λ s. nat_lt c (length lib.components) && has s c) same_members)
+    (λ e. ap (λ a. has a.edges e) made ∙ edges_are e ∙ ap (λ n. nat_lt e n && has members (length components + e)) (ap length same_rows)
+    ∙ ap (λ n. nat_lt e (length lib.edges) && has members (n + e)) (ap length same_components) ∙ ap (λ s. nat_lt e (length lib.edges) && has s (length lib.components + e)) same_members)

@@ -4,6 +4,8 @@ ghost use Rattle.arch_model.specs.Architecture.{IsArchitecture};
 ghost use Rattle.arch_model.specs.Member as member;
 ghost use Rattle.arch_model.specs.Parts.{ArchitectureParts};
 ghost use Rattle.arch_model.specs.Set.{has};
+ghost use Rattle.rows.specs.Cube.{IsCube};
+ghost use Rattle.rows.specs.Parts.{CubeParts};
 ghost use Rattle.binary_program.specs.CubeOf.{FixesAll, IsCubeOf};
 
 use arch_model::limits::{COMPONENTS, EDGES};
@@ -25,12 +27,13 @@ fn is_present(lib: &Library, arch: &Architecture, v: VarId) -> bool
     }
 }
 
-/// The cube of an architecture: each member is fixed, to 1 where it is present and to 0 where it
-/// isn't. No other architecture of the library has this cube.
+/// The cube of an architecture: each member is fixed, to 1 where it is present and to 0 where it isn't. No other
+/// architecture of the library has this cube, so that `architecture_of` leads back.
 pub fn cube_of(lib: &Library, arch: &Architecture) -> Cube
     requires { IsArchitecture lib.now arch.now }
     ensures cube { IsCubeOf lib.now arch.now result }
-    ensures only { (other : ArchitectureParts) → IsArchitecture lib.now other → IsCubeOf lib.now other result → other ≡ arch.now }
+    ensures only { (other : ArchitectureParts) → IsArchitecture lib.now other → IsCubeOf lib.now other result
+        → other ≡ arch.now }
 {
     let mut cube = Cube::whole();
     for i in 0..variable_count(lib) {
@@ -69,13 +72,14 @@ fn edges_among(members: &MemberSet, components: u32, edges: u32) -> EdgeSet
     chosen
 }
 
-/// The architecture of a cube in which nothing is free: the members that are fixed to 1, which are
-/// to keep the ends of each edge. It is the one whose cube this is.
+/// The architecture of a cube in which nothing is free: the members that are fixed to 1, which are to keep the ends of
+/// each edge. It has no other cube, so that `cube_of` leads back.
 pub fn architecture_of(lib: &Library, cube: &Cube) -> Architecture
     requires full { FixesAll lib.now cube.now }
     requires ends { member.KeepsEnds lib.now (has cube.now.ones) }
     ensures architecture { IsArchitecture lib.now result }
     ensures cube { IsCubeOf lib.now result cube.now }
+    ensures only { (other : CubeParts) → IsCube other → IsCubeOf lib.now result other → other ≡ cube.now }
 {
     let ones = cube.ones();
     let components = lib.components().len() as u32;

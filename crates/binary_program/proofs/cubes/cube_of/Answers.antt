@@ -6,7 +6,7 @@ pub loop-i-init : goal.loop-i-init
 loop-i-init c = cube_begins c.args.lib.now c.args.arch.now c.whole-cube.result c.whole-cube.ensures
 
 pub loop-i-preserved : goal.loop-i-preserved
-loop-i-preserved c = cube_more c.args.lib.now c.args.arch.now c.loop-i.i c.is_present.result c.loop-i.cube c.fix.new.self c.loop-i.invariant c.is_present.ensures c.fix.ensures
+loop-i-preserved c = cube_more c.args.lib.now c.args.arch.now c.loop-i.i c.is_present.result c.loop-i.cube c.fix.new.self c.loop-i.invariant c.is_present.ensures c.fix.ensures.fixed
 
 all_fixed : (i n m : ℕ) → i ≤ n → n ≤ i → n ≡ m → i ≡ m
 all_fixed i n m h k e = omega arith
