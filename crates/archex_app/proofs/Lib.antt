@@ -1,8 +1,8 @@
 pub mod Pieces
 pub mod WordLaws
-pub mod Chosen
+pub mod AnyLaws
 pub mod SearchLaws
+pub mod Unrequired
 pub mod RunLaws
-pub mod MeetsLaws
 pub mod KeyLaws
 pub mod ReportLaws

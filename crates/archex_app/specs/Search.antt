@@ -1,34 +1,22 @@
--- What the search keeps, variable by variable: the components come first, then the edges.
-use Rattle.std.specs.Prelude.{◌≡◌, ℕ, ◌<◌, ◌≤◌, ◌||◌, false, nat_eq, Option}
+-- What the search keeps, cube by cube.
+use Rattle.std.specs.Prelude.{◌≡◌, ℕ, ◌≤◌, nat_lt, Option}
 use Rattle.std.specs.Option.{IsSomeAnd}
-use Rattle.arch_model.specs.Parts.{LibraryParts, ArchitectureParts}
-use Rattle.arch_model.specs.Architecture.{IsArchitecture, cost_of}
-use Rattle.arch_model.specs.Member.{is_present}
-use Rattle.archex_app.specs.declared.search.Candidate.{Candidate}
-use Rattle.archex_app.specs.Cheapest.{MeetsPatterns}
+use Rattle.arch_model.specs.Set.{has}
+use Rattle.arch_model.specs.Parts.{LibraryParts}
+use Rattle.arch_model.specs.Architecture.{cost_of}
+use Rattle.rows.specs.Parts.{CubeParts}
+use Rattle.rows.specs.Problem.{IsCandidate}
+use Rattle.archex_app.specs.declared.search.Found.{Found}
 
--- two architectures have the same variables below one
-abbrev pub AgreeBelow : LibraryParts → ℕ → ArchitectureParts → ArchitectureParts → Type 0
-AgreeBelow lib at a b = (v : ℕ) → v < at → is_present lib a v ≡ is_present lib b v
+-- exactly the variables below one are fixed
+abbrev pub FixesBelow : ℕ → CubeParts → Type 0
+FixesBelow next cube = (v : ℕ) → has cube.fixed v ≡ nat_lt v next
 
--- no variable from one on is chosen
-abbrev pub HasNothingFrom : LibraryParts → ℕ → ArchitectureParts → Type 0
-HasNothingFrom lib at a = (v : ℕ) → at ≤ v → is_present lib a v ≡ false
-
--- the second architecture is the first with one more variable
-abbrev pub Adds : LibraryParts → ArchitectureParts → ℕ → ArchitectureParts → Type 0
-Adds lib a at b = (v : ℕ) → is_present lib b v ≡ (is_present lib a v || nat_eq at v)
-
--- an architecture of the library, with its cost
-pub record IsCandidate (lib : LibraryParts) (candidate : Candidate) : Type 0 where
-  pub architecture : IsArchitecture lib candidate.architecture
-  pub cost : candidate.cost ≡ cost_of lib candidate.architecture
-
--- one that meets every pattern
-pub record IsFound (lib : LibraryParts) (candidate : Candidate) : Type 0 where
-  pub meets : MeetsPatterns lib candidate.architecture
-  pub cost : candidate.cost ≡ cost_of lib candidate.architecture
+-- an architecture that meets every pattern and has every required sink, with its cost
+pub record IsFound (lib : LibraryParts) (found : Found) : Type 0 where
+  pub candidate : IsCandidate lib found.architecture
+  pub cost : found.cost ≡ cost_of lib found.architecture
 
 -- something is known that costs at most so much
-abbrev pub IsKnownWithin : Option Candidate → ℕ → Type 0
-IsKnownWithin best cost = IsSomeAnd best (λ candidate. candidate.cost ≤ cost)
+abbrev pub IsKnownWithin : Option Found → ℕ → Type 0
+IsKnownWithin best cost = IsSomeAnd best (λ found. found.cost ≤ cost)

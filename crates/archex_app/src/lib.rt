@@ -5,12 +5,12 @@
 //! out: what each status says of the library's bytes and of all its architectures, which fault is the cause of each
 //! status that isn't an answer, and which status always comes where nothing outside failed.
 //!
-//! The search is a plain recursion over the components, then the edges, that drops a branch whose chosen parts cost as
-//! much as the best architecture already known. It takes no memory, and looks at up to 2^v architectures of v
-//! components and edges.
+//! The search is a plain recursion over the components, then the edges, cube by cube: a cube is dropped where one of the
+//! library's base rows is refuted, or the cost row for the best architecture so far (branch and bound, a textbook
+//! method). It takes no memory, and may look at 2^v cubes of v components and edges.
 //!
-//! Stands on `lib_read` for the library, `patterns` for the patterns, `template` for names, `outside` for the shelf and
-//! the sink, and on nothing of the system.
+//! Stands on `lib_read` for the library, `binary_program` for the rows that say what its patterns say, `rows` for what
+//! they refute, `template` for names, `outside` for the shelf and the sink, and on nothing of the system.
 #![tactic(auto)]
 
 mod printing;

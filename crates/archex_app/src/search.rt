@@ -1,140 +1,136 @@
-// The search: over the components, then the edges, in number order.
-ghost use Rattle.std.specs.Prelude.{◌≡◌, ℕ, ◌+◌, ◌≤◌, ◌<◌, IfSome, IfNone, length, Option, IsNone, IsTrue, ◌↔◌, false};
-ghost use Rattle.std.specs.List.{All};
-ghost use Rattle.std.specs.Option.{ForSome, IsSomeAnd};
+// The search: over the variables in number order, components before edges.
+ghost use Rattle.std.specs.Prelude.{◌≡◌, ℕ, ◌+◌, ◌≤◌, ◌<◌, Bool, false, IfSome, IfNone, option_map, option_to_list};
+ghost use Rattle.std.specs.List.{list_any};
+ghost use Rattle.std.specs.Option.{ForSome};
 ghost use Rattle.arch_model.specs.Parts.{ArchitectureParts};
+ghost use Rattle.arch_model.specs.Architecture.{cost_of};
+ghost use Rattle.arch_model.specs.Library.{IsLibrary};
 ghost use Rattle.arch_model.specs.Member.{is_present, member_count};
-ghost use Rattle.arch_model.specs.Architecture.{IsArchitecture, cost_of};
-ghost use Rattle.arch_model.specs.Pattern.{MeetsPattern};
-ghost use Rattle.archex_app.specs.Cheapest.{MeetsPatterns, IsCheapest};
-ghost use Rattle.archex_app.specs.Search.{AgreeBelow, HasNothingFrom, Adds, IsCandidate, IsFound, IsKnownWithin};
+ghost use Rattle.arch_model.specs.Set.{has};
+ghost use Rattle.rows.specs.Activity.{is_refuted};
+ghost use Rattle.rows.specs.BaseRows.{cost_row_of};
+ghost use Rattle.rows.specs.Cube.{LiesIn};
+ghost use Rattle.rows.specs.Problem.{IsCandidate, IsVectorOf};
+ghost use Rattle.archex_app.specs.Search.{FixesBelow, IsFound, IsKnownWithin};
 
-use arch_model::{Architecture, CompId, CompSet, EdgeId, EdgeSet, Library};
-use patterns::first_broken;
+use arch_model::limits::MEMBERS;
+use arch_model::{Architecture, VarId, cost};
+use binary_program::architecture_of;
+use rows::{Cube, CutList, Known, Problem, RowRef, refuted, variable_count};
+use std::alloc::Global;
 
 /// An architecture and its cost.
 #[derive(Clone, Copy)]
-pub struct Candidate {
+pub struct Found {
+    /// The sum of the costs of its components and edges, in cost units.
     pub cost: u64,
+    /// The architecture.
     pub architecture: Architecture,
 }
 
-// Whether something is known that costs at most so much.
-fn is_known(best: &Option<Candidate>, cost: u64) -> bool
-    ensures { IsTrue result ↔ IsKnownWithin best.now cost }
+// Whether a base row is refuted in a cube.
+fn breaks_base_row(known: &Known, cube: &Cube) -> bool
+    ensures { result ≡ list_any (λ row. is_refuted row cube.now) known.now.problem.now.base }
+{
+    for i in 0..known.problem.base().len() as u32 {
+        if refuted(known, RowRef::Base(i), cube) {
+            return true;
+        }
+    }
+    false
+}
+
+// Whether the cost row for the bound is refuted in a cube, where there is a bound.
+fn breaks_bound(known: &Known, cube: &Cube) -> bool
+    ensures { result
+        ≡ list_any (λ row. is_refuted row cube.now)
+        (option_to_list (option_map (cost_row_of known.now.problem.now.library) known.now.bound)) }
+{
+    known.bound.is_some() && refuted(known, RowRef::Cost, cube)
+}
+
+// The cost of the best so far, if there is one.
+fn bound_of(best: &Option<Found>) -> Option<u64>
+    ensures { result ≡ option_map (λ found. found.cost) best.now }
 {
     match best {
-        Some(known) => known.cost <= cost,
-        None => false,
+        Some(found) => Some(found.cost),
+        None => None,
     }
 }
 
-// Whether an architecture meets every pattern.
-fn meets_all(lib: &Library, architecture: &Architecture) -> bool
-    requires { IsArchitecture lib.now architecture.now }
-    ensures { IsTrue result ↔ All (MeetsPattern lib.now architecture.now) lib.now.patterns }
+// The architecture of a cube in which nothing is free and no base row is refuted: the only one that lies in it.
+fn found_in(problem: &Problem, cube: &Cube) -> Found
+    requires library { IsLibrary problem.now.library }
+    requires full { FixesBelow (member_count problem.now.library) cube.now }
+    requires stands { list_any (λ row. is_refuted row cube.now) problem.now.base ≡ false }
+    ensures found { IsFound problem.now.library result }
+    ensures vector { IsVectorOf problem.now.library result.architecture (has cube.now.ones) }
+    ensures only { (arch : ArchitectureParts) → IsCandidate problem.now.library arch
+        → LiesIn (is_present problem.now.library arch) cube.now → arch ≡ result.architecture }
 {
-    first_broken(lib, architecture).is_none()
-}
-
-// A candidate with one more component.
-fn with_component(lib: &Library, chosen: &Candidate, component: usize) -> Candidate
-    requires candidate { IsCandidate lib.now chosen.now }
-    requires in_range { component < length lib.now.components }
-    requires absent { is_present lib.now chosen.now.architecture component ≡ false }
-    ensures candidate { IsCandidate lib.now result }
-    ensures adds { Adds lib.now chosen.now.architecture component result.architecture }
-{
-    let row = lib.components()[component];
-    let mut comps = chosen.architecture.comps();
-    comps.put(CompId(component as u32));
-    Candidate {
-        cost: chosen.cost + row.cost,
-        architecture: Architecture::new(comps, chosen.architecture.edges()),
+    let lib = problem.library();
+    let architecture = architecture_of(lib, cube);
+    Found {
+        cost: cost(lib, &architecture),
+        architecture,
     }
 }
 
-// A candidate with one more edge; none where an end of the edge isn't chosen.
-fn with_edge(lib: &Library, chosen: &Candidate, edge: usize) -> Option<Candidate>
-    requires candidate { IsCandidate lib.now chosen.now }
-    requires in_range { edge < length lib.now.edges }
-    requires absent { is_present lib.now chosen.now.architecture (length lib.now.components + edge) ≡ false }
-    ensures candidate { IfSome result (IsCandidate lib.now) }
-    ensures adds { IfSome result
-        (λ more. Adds lib.now chosen.now.architecture (length lib.now.components + edge) more.architecture) }
-    ensures no_end { IfNone result ((arch : ArchitectureParts) → IsArchitecture lib.now arch
-        → AgreeBelow lib.now (length lib.now.components) chosen.now.architecture arch
-        → is_present lib.now arch (length lib.now.components + edge) ≡ false) }
+// A cube with one more variable fixed.
+fn with(cube: &Cube, next: u32, value: bool) -> Cube
+    requires open { FixesBelow next cube.now }
+    requires small { next < MEMBERS }
+    ensures open { FixesBelow (next + 1) result }
+    ensures lies { (x : ℕ → Bool) → LiesIn x cube.now → x next ≡ value → LiesIn x result }
 {
-    let row = lib.edges()[edge];
-    let comps = chosen.architecture.comps();
-    if !comps.has(row.tail) || !comps.has(row.head) {
-        return None;
-    }
-    let mut edges = chosen.architecture.edges();
-    edges.put(EdgeId(edge as u32));
-    Some(Candidate {
-        cost: chosen.cost + row.cost,
-        architecture: Architecture::new(comps, edges),
-    })
+    let mut cube = *cube;
+    cube.fix(VarId(next), value);
+    cube
 }
 
-// A candidate with one more variable; none where it is an edge without its ends.
-fn with_variable(lib: &Library, chosen: &Candidate, variable: usize) -> Option<Candidate>
-    requires candidate { IsCandidate lib.now chosen.now }
-    requires in_range { variable < member_count lib.now }
-    requires absent { is_present lib.now chosen.now.architecture variable ≡ false }
-    ensures candidate { IfSome result (IsCandidate lib.now) }
-    ensures adds { IfSome result (λ more. Adds lib.now chosen.now.architecture variable more.architecture) }
-    ensures no_end { IfNone result ((arch : ArchitectureParts) → IsArchitecture lib.now arch
-        → AgreeBelow lib.now variable chosen.now.architecture arch → is_present lib.now arch variable ≡ false) }
-{
-    let components = lib.components().len();
-    if variable < components {
-        Some(with_component(lib, chosen, variable))
-    } else {
-        with_edge(lib, chosen, variable - components)
-    }
-}
-
-// Looks at all architectures that agree with the one chosen on the variables before the next, and keeps the best. A
-// branch is dropped where what is chosen costs as much as the best already: more never costs less.
-fn search(lib: &Library, next: usize, chosen: &Candidate, best: &mut Option<Candidate>)
-    requires candidate { IsCandidate lib.now chosen.now }
-    requires open { HasNothingFrom lib.now next chosen.now.architecture }
-    requires in_range { next ≤ member_count lib.now }
-    requires found { ForSome best.old (IsFound lib.now) }
-    ensures found { IfSome best.new (IsFound lib.now) }
-    ensures covered { (arch : ArchitectureParts) → MeetsPatterns lib.now arch
-        → AgreeBelow lib.now next chosen.now.architecture arch → IsKnownWithin best.new (cost_of lib.now arch) }
+// Looks at all architectures that lie in a cube in which the variables before the next are fixed, and keeps the best.
+// A cube is dropped where a base row is refuted, or the cost row for the best so far.
+fn search(problem: &Problem, cuts: &CutList, next: u32, cube: &Cube, best: &mut Option<Found>)
+    requires open { FixesBelow next cube.now }
+    requires in_range { next ≤ member_count problem.now.library }
+    requires found { ForSome best.old (IsFound problem.now.library) }
+    ensures found { IfSome best.new (IsFound problem.now.library) }
+    ensures covered { (arch : ArchitectureParts) → IsCandidate problem.now.library arch
+        → LiesIn (is_present problem.now.library arch) cube.now
+        → IsKnownWithin best.new (cost_of problem.now.library arch) }
     ensures kept { (cost : ℕ) → IsKnownWithin best.old cost → IsKnownWithin best.new cost }
 {
-    if is_known(best, chosen.cost) {
+    let lib = problem.library();
+    let known = Known {
+        problem,
+        cuts,
+        upto: 0,
+        bound: bound_of(best),
+    };
+    if breaks_base_row(&known, cube) {
         return;
     }
-    if next == lib.components().len() + lib.edges().len() {
-        if meets_all(lib, &chosen.architecture) {
-            *best = Some(*chosen);
-        }
+    if breaks_bound(&known, cube) {
         return;
     }
-    search(lib, next + 1, chosen, best);
-    if let Some(more) = with_variable(lib, chosen, next) {
-        search(lib, next + 1, &more, best);
+    if next == variable_count(lib) {
+        *best = Some(found_in(problem, cube));
+        return;
     }
+    search(problem, cuts, next + 1, &with(cube, next, false), best);
+    search(problem, cuts, next + 1, &with(cube, next, true), best);
 }
 
-/// An architecture of least cost among those that meet every pattern, if there is one.
-pub fn cheapest(lib: &Library) -> Option<Candidate>
-    ensures found { IfSome result (λ best. IsCheapest lib.now best.architecture) }
-    ensures cost { IfSome result (λ best. best.cost ≡ cost_of lib.now best.architecture) }
-    ensures none { IfNone result ((arch : ArchitectureParts) → MeetsPatterns lib.now arch → ⊥) }
+/// An architecture of least cost among those that meet every pattern and have every required sink, if there is one.
+pub fn cheapest(alloc: Global, problem: &Problem) -> Option<Found>
+    ensures found { IfSome result (IsFound problem.now.library) }
+    ensures least { IfSome result (λ best. (arch : ArchitectureParts) → IsCandidate problem.now.library arch
+        → best.cost ≤ cost_of problem.now.library arch) }
+    ensures none { IfNone result ((arch : ArchitectureParts) → IsCandidate problem.now.library arch → ⊥) }
 {
+    let cuts = CutList::new(alloc);
     let mut best = None;
-    let nothing = Candidate {
-        cost: 0,
-        architecture: Architecture::new(CompSet::new(), EdgeSet::new()),
-    };
-    search(lib, 0, &nothing, &mut best);
+    search(problem, &cuts, 0, &Cube::whole(), &mut best);
     best
 }

@@ -9,6 +9,7 @@ use crate::report::optimal_report;
 use crate::search::cheapest;
 use crate::status::Status;
 use arch_model::Memory;
+use binary_program::problem_of;
 use lib_read::{LibError, read_library};
 use outside::Shelf;
 use std::alloc::{AllocError, Global};
@@ -57,9 +58,11 @@ fn decide(alloc: Global, bytes: &[u8]) -> Result<Outcome, Memory>
         Err(LibError::Fault(fault)) => return Ok(Outcome::Refused(refusal(alloc, &fault)?)),
         Err(LibError::Memory) => return Err(AllocError),
     };
-    match cheapest(&lib) {
+    let problem = problem_of(alloc, lib)?;
+    match cheapest(alloc, &problem) {
         Some(best) => {
-            let report = optimal_report(alloc, &lib, best.cost, &best.architecture)?;
+            let report =
+                optimal_report(alloc, problem.library(), best.cost, &best.architecture)?;
             Ok(Outcome::Optimal(report))
         }
         None => Ok(Outcome::Infeasible),

@@ -148,6 +148,80 @@ pattern = [
     Ok(())
 }
 
+// A sink that must be fed over a bus costs 5. A cap of 5 lets that stand and one of 4 doesn't; the supply of 3 never
+// meets the demand of 5, neither in total nor at the bus.
+#[test]
+fn further_patterns_narrow_the_answer(rt: HostRuntime) -> Result<(), Fail> {
+    let alloc = rt.alloc();
+    let fed = b"type = [
+  {name = \"a\", role = \"source\", cost = 2, supply = 3},
+  {name = \"b\", role = \"middle\", max = 2, cost = 1},
+  {name = \"c\", role = \"sink\", demand = 5},
+]
+link = [{from = \"a\", to = \"b\", cost = 1}, {from = \"b\", to = \"c\", cost = 1}]
+[[pattern]]
+kind = \"count\"
+type = \"c\"
+min = 1
+[[pattern]]
+kind = \"indegree\"
+type = \"c\"
+from = \"b\"
+min = 1
+[[pattern]]
+kind = \"indegree\"
+type = \"b\"
+from = \"a\"
+min = 1
+";
+    let rows: [(&[u8], Option<&[u8]>); 9] = [
+        (b"", Some(b"5")),
+        (b"kind = \"cost_cap\"\nmax = 5", Some(b"5")),
+        (b"kind = \"cost_cap\"\nmax = 4", None),
+        (b"kind = \"total_supply\"", None),
+        (b"kind = \"local_supply\"\ntype = \"b\"", None),
+        (
+            b"kind = \"forbid\"\nfrom = \"a.1\"\nto = \"b.2\"",
+            Some(b"5"),
+        ),
+        (
+            b"kind = \"count\"\ntype = \"b\"\nmin = 2",
+            Some(b"7"),
+        ),
+        (
+            b"kind = \"exclusive\"\ntype = \"c\"\na = \"b\"\nb = \"a\"",
+            Some(b"5"),
+        ),
+        (
+            b"kind = \"in_needs_out\"\ntype = \"b\"\nfrom = \"a\"\nto = \"c\"\n[[pattern]]\nkind = \"outdegree\"\ntype = \"a\"\nto = \"b\"\nmin = 2",
+            Some(b"8"),
+        ),
+    ];
+    for (further, cost) in rows {
+        let mut library = fed.to_vec(alloc)?;
+        if !further.is_empty() {
+            library.extend_from_slice(b"[[pattern]]\n")?;
+            library.extend_from_slice(further)?;
+        }
+        let words = &["solve", "x.toml"];
+        let (ended, printed) = run_on(alloc, words, library.as_slice(), &[], &[])?;
+        match cost {
+            Some(cost) => {
+                let mut front = b"status optimal\ncost ".to_vec(alloc)?;
+                front.extend_from_slice(cost)?;
+                front.push(b'\n')?;
+                assert_eq!(rt; ended, Status::OPTIMAL);
+                assert!(rt; printed.as_slice().starts_with(front.as_slice()));
+            }
+            None => {
+                assert_eq!(rt; ended, Status::INFEASIBLE);
+                assert_eq!(rt; printed.as_slice(), b"status infeasible\n".as_slice());
+            }
+        }
+    }
+    Ok(())
+}
+
 // A library is refused for its first fault, with its class, table, position (0 for the file) and key: one library for
 // each class that a document without requirements can have; a table that isn't known yet; a class that is judged over
 // the whole file before the next one; and a key of 60 characters, of which the first 40 are printed, the line feed and

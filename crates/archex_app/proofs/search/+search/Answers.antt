@@ -1,31 +1,36 @@
-use Rattle.std.proofs.Common.{subst, ◌≡◌, arith, length, ap, true, false, sym, ◌∙◌}
-use Rattle.arch_model.specs.Parts.{ArchitectureParts}
+use Rattle.std.proofs.Common.{◌≡◌, ℕ, ◌≤◌, true, false, sym, subst, ap, ◌∙◌, arith, Option, List, option_map, option_to_list}
+use Rattle.std.specs.List.{list_any}
 use Rattle.arch_model.specs.Member.{member_count}
-use Rattle.archex_app.specs.Cheapest.{MeetsPatterns}
-use Rattle.archex_app.proofs.SearchLaws.{known_weaker, chosen_costs, covered_both, agree_more, full_is}
+use Rattle.arch_model.specs.Architecture.{cost_of}
+use Rattle.arch_model.specs.Parts.{LibraryParts}
+use Rattle.rows.specs.Activity.{is_refuted}
+use Rattle.rows.specs.BaseRows.{cost_row_of}
+use Rattle.archex_app.specs.Search.{FixesBelow}
+use Rattle.archex_app.proofs.SearchLaws.{bound_of, dropped_by_rows, dropped_by_bound, cheaper, covered_both}
 use Rattle.archex_app.proofs.search.+search.Goals as goal
 
-pub returns-then-is_known-clause-covered : goal.returns-then-is_known-clause-covered
-returns-then-is_known-clause-covered t c arch meets agree =
-    known_weaker c.args.best.now c.args.chosen.now.cost _ (chosen_costs c.args.lib.now c.args.next c.args.chosen.now arch c.requires.candidate c.requires.«open» agree) (c.is_known.ensures.0 c.if-is_known.true)
+pub returns-then-breaks_base_row-clause-covered : goal.returns-then-breaks_base_row-clause-covered
+returns-then-breaks_base_row-clause-covered t c arch candidate lies =
+    dropped_by_rows c.args.problem.now c.args.cube.now c.args.best.now c.library-lib.ensures.problem (sym c.breaks_base_row.ensures ∙ c.if-breaks_base_row.true) arch candidate lies
 
-pub returns-then-meets_all-clause-covered : goal.returns-then-meets_all-clause-covered
-returns-then-meets_all-clause-covered t c arch meets agree = chosen_costs c.args.lib.now c.args.next c.args.chosen.now arch c.requires.candidate c.requires.«open» agree
+pub returns-then-breaks_bound-clause-covered : goal.returns-then-breaks_bound-clause-covered
+returns-then-breaks_bound-clause-covered t c arch candidate lies =
+    dropped_by_bound c.args.problem.now.library c.args.cube.now c.args.best.now
+    (ap (λ (o : Option ℕ). list_any (λ row. is_refuted row c.args.cube.now) (option_to_list (option_map (cost_row_of c.args.problem.now.library) o))) (sym c.bound_of.ensures) ∙ sym c.breaks_bound.ensures ∙ c.if-breaks_bound.true) arch lies
 
-pub returns-else-meets_all-clause-covered : goal.returns-else-meets_all-clause-covered
-returns-else-meets_all-clause-covered t c arch meets agree =
-    let full : c.args.next ≡ member_count c.args.lib.now = omega (arith, c.if-next-components.true, ap length c.components.ensures.rows, ap length c.edges.ensures.rows) in
-    let same = full_is c.args.lib.now c.args.next c.args.chosen.now.architecture arch c.requires.candidate.architecture meets.architecture agree full in
-    let P : ArchitectureParts → Type 0 = MeetsPatterns c.args.lib.now in
-    let chosen_meets = subst P same meets in
-    absurd (let e : true ≡ false = sym (c.meets_all.ensures.1 chosen_meets.patterns) ∙ c.if-meets_all.false in cc)
+pub returns-then-next-variable_count-clause-kept : goal.returns-then-next-variable_count-clause-kept
+returns-then-next-variable_count-clause-kept t c cost known =
+    let full : c.args.next ≡ member_count c.args.problem.now.library = c.if-next-variable_count.true ∙ c.variable_count.ensures.count ∙ ap member_count c.library-lib.ensures.library in
+    let fixed = subst (λ (n : ℕ). FixesBelow n c.args.cube.now) full c.requires.«open» in
+    let less = cheaper c.args.problem.now.library c.args.cube.now c.args.best.now c.found_in.result.architecture fixed c.found_in.ensures.vector
+        (ap (λ (o : Option ℕ). list_any (λ row. is_refuted row c.args.cube.now) (option_to_list (option_map (cost_row_of c.args.problem.now.library) o))) (sym c.bound_of.ensures) ∙ sym c.breaks_bound.ensures ∙ c.if-breaks_bound.false) cost known in
+    omega (arith, less, c.found_in.ensures.found.cost)
 
-pub returns-in-Some-clause-covered : goal.returns-in-Some-clause-covered
-returns-in-Some-clause-covered t c =
-    covered_both c.args.lib.now c.args.next c.args.chosen.now.architecture c.search.new.best c.search-in-Some.new.best c.requires.«open» c.search.ensures.covered c.search-in-Some.ensures.kept
-    (λ arch meets agree on. c.search-in-Some.ensures.covered arch meets (agree_more c.args.lib.now c.args.next c.args.chosen.now.architecture c.in-Some.more.architecture arch agree c.in-Some.ensures.adds on))
+pub returns-then-next-variable_count-clause-covered : goal.returns-then-next-variable_count-clause-covered
+returns-then-next-variable_count-clause-covered t c arch candidate lies =
+    let same = ap (cost_of c.args.problem.now.library) (c.found_in.ensures.only arch candidate lies) in
+    omega (arith, same, c.found_in.ensures.found.cost)
 
-pub returns-in_default-clause-covered : goal.returns-in_default-clause-covered
-returns-in_default-clause-covered t c =
-    covered_both c.args.lib.now c.args.next c.args.chosen.now.architecture c.search.new.best c.search.new.best c.requires.«open» c.search.ensures.covered (λ cost known. known)
-    (λ arch meets agree on. let none = c.in_default.ensures.no_end in absurd (let e : true ≡ false = sym on ∙ none arch meets.architecture agree in cc))
+pub returns-clause-covered : goal.returns-clause-covered
+returns-clause-covered t c =
+    covered_both c.args.problem.now.library c.args.next c.args.cube.now c.with.result c.with-2.result c.search.new.best c.search-2.new.best c.with.ensures.lies c.with-2.ensures.lies c.search.ensures.covered c.search-2.ensures.kept c.search-2.ensures.covered

@@ -3,4 +3,4 @@ use Rattle.arch_model.specs.Member.{member_count}
 use Rattle.archex_app.proofs.search.+search.Given as goal
 
 abbrev pub decreases-search : goal.decreases-search
-decreases-search l = member_count l.lib.now - l.next
+decreases-search l = member_count l.problem.now.library - l.next

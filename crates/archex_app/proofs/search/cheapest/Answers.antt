@@ -1,15 +1,16 @@
-use Rattle.std.proofs.Common.{arith}
-use Rattle.archex_app.proofs.SearchLaws.{no_sets, nothing_candidate, nothing_from, known_is_cheapest, nothing_known}
+use Rattle.std.proofs.Common.{◌≡◌, ℕ, ◌≤◌, true, sym, ap, ◌∙◌, arith}
+use Rattle.std.proofs.lemmas.Bool.{le-ltb}
+use Rattle.arch_model.specs.Set.{has}
+use Rattle.arch_model.proofs.SetLaws.{has-empty}
+use Rattle.rows.specs.Parts.{CubeParts}
+use Rattle.archex_app.proofs.SearchLaws.{whole_fixes_none, all_lie_in_whole, none_there, known_is_least}
 use Rattle.archex_app.proofs.search.cheapest.Goals as goal
 
-pub search-requires-clause-candidate : goal.search-requires-clause-candidate
-search-requires-clause-candidate c = nothing_candidate c.args.lib.now c.new-3.result (no_sets c.new-3.result c.new.result c.new-2.result c.new-3.ensures c.new.ensures c.new-2.ensures)
-
 pub search-requires-clause-open : goal.search-requires-clause-open
-search-requires-clause-open c = nothing_from c.args.lib.now c.new-3.result (no_sets c.new-3.result c.new.result c.new-2.result c.new-3.ensures c.new.ensures c.new-2.ensures)
+search-requires-clause-open c = whole_fixes_none c.whole.result c.whole.ensures
 
-pub returns-clause-found : goal.returns-clause-found
-returns-clause-found c = known_is_cheapest c.args.lib.now c.search.new.best c.search.ensures.found (λ arch meets. c.search.ensures.covered arch meets (λ v h. absurd (omega arith)))
+pub returns-clause-least : goal.returns-clause-least
+returns-clause-least c = known_is_least c.args.problem.now.library c.search.new.best (λ arch candidate. c.search.ensures.covered arch candidate (all_lie_in_whole c.whole.result c.whole.ensures _))
 
 pub returns-clause-none : goal.returns-clause-none
-returns-clause-none c = nothing_known c.args.lib.now c.search.new.best (λ arch meets. c.search.ensures.covered arch meets (λ v h. absurd (omega arith)))
+returns-clause-none c = none_there c.args.problem.now.library c.search.new.best (λ arch candidate. c.search.ensures.covered arch candidate (all_lie_in_whole c.whole.result c.whole.ensures _))
