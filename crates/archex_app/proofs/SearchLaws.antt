@@ -1,17 +1,17 @@
 -- What cubes and rows say of the architectures that are looked for.
-use Rattle.std.proofs.Common.{◌≡◌, ℕ, ◌+◌, ◌-◌, ◌<◌, ◌≤◌, pos, ◌-ℤ◌, Bool, true, false, cond, not, ◌||◌, nat_lt, nat_eq, List, [], ◌∷◌, length, Option, Some, None, option_map, refl, sym, ap, subst, ◌∙◌, arith, inl, inr}
-use Rattle.std.specs.Prelude.{IsTrue, IfSome, IfNone, option_to_list}
+use Rattle.std.proofs.Common.{◌≡◌, ℕ, ◌+◌, ◌<◌, ◌≤◌, pos, ◌-ℤ◌, Bool, true, false, not, ◌||◌, nat_lt, nat_eq, List, [], ◌∷◌, Option, Some, None, option_map, refl, sym, ap, subst, ◌∙◌, arith, inl, inr}
+use Rattle.std.specs.Prelude.{IfSome, IfNone, option_to_list}
 use Rattle.std.specs.List.{All, AllByRecursion, list_any}
-use Rattle.std.proofs.lemmas.Bool.{lt-ltb, le-ltb, ltb-true, ltb-false, eqb-true}
+use Rattle.std.proofs.lemmas.Bool.{lt-ltb, le-ltb, ltb-true, eqb-true}
 use Rattle.std.proofs.lemmas.Bool.Decides.{eqb_tells}
 use Rattle.std.proofs.lemmas.List.Elements.{All-from_recursion, recursion_from_All}
-use Rattle.arch_model.specs.Set.{Set, has}
+use Rattle.arch_model.specs.Set.{has}
 use Rattle.arch_model.specs.Parts.{LibraryParts, ArchitectureParts}
 use Rattle.arch_model.specs.Architecture.{IsArchitecture, cost_of}
 use Rattle.arch_model.specs.Library.{IsLibrary}
 use Rattle.arch_model.specs.Member.{is_present, member_count, KeepsEnds}
-use Rattle.arch_model.proofs.Members.{or_left, or_right, or_cases, bool_cases, false_if, same_test}
-use Rattle.arch_model.proofs.SetLaws.{has-empty, has-put, same_set}
+use Rattle.arch_model.proofs.Members.{or_left, or_right, or_cases, bool_cases, same_test}
+use Rattle.arch_model.proofs.SetLaws.{has-empty, has-put}
 use Rattle.rows.specs.Parts.{RowParts, CubeParts, ProblemParts}
 use Rattle.rows.specs.Row.{RowHolds, IsRowBelow}
 use Rattle.rows.specs.Cube.{IsCube, LiesIn, IsFull, fixed_at, whole}
@@ -19,11 +19,12 @@ use Rattle.rows.specs.Activity.{is_refuted}
 use Rattle.rows.specs.BaseRows.{cost_row_of, cost_terms}
 use Rattle.rows.specs.Problem.{IsVectorOf, IsCandidate, IsProblem}
 use Rattle.rows.proofs.CubeLaws.{holds_nowhere, is_refuted_when, stands_where_it_holds, lies_fixed}
-use Rattle.rows.proofs.VectorLaws.{cost_row_says, cost_terms_below, vector_keeps_ends}
-use Rattle.binary_program.specs.CubeOf.{FixesAll, IsCubeOf}
+use Rattle.rows.proofs.VectorLaws.{cost_row_says, vector_keeps_ends}
+use Rattle.binary_program.specs.CubeOf.{IsCubeOf}
 use Rattle.binary_program.proofs.RowCounts.{is_row_below}
+use Rattle.binary_program.proofs.CubeLaws.{same_architecture}
 use Rattle.archex_app.specs.declared.search.Found.{Found}
-use Rattle.archex_app.specs.Search.{FixesBelow, IsFound, IsKnownWithin}
+use Rattle.archex_app.specs.Search.{FixesBelow, IsKnownWithin}
 
 -- the vector of an architecture's own members
 own_vector : (lib : LibraryParts) (arch : ArchitectureParts) → IsVectorOf lib arch (is_present lib arch)
@@ -84,39 +85,6 @@ module _ (problem : ProblemParts) (cube : CubeParts) (is : IsProblem problem) (f
 
   pub full_keeps_ends : IsLibrary problem.library → KeepsEnds problem.library (has cube.ones)
   full_keeps_ends right = vector_keeps_ends problem.library candidate_of.0 (has cube.ones) right candidate_of.1 candidate_of.2.architecture
-
--- two architectures with the same members are one
-component_is : (lib : LibraryParts) (arch : ArchitectureParts) (c : ℕ) → c < length lib.components → is_present lib arch c ≡ has arch.comps c
-component_is lib arch c h = ap (λ b. cond b (has arch.comps c) (has arch.edges (c - length lib.components))) (lt-ltb c (length lib.components) h)
-
-edge_is : (lib : LibraryParts) (arch : ArchitectureParts) (e : ℕ) → is_present lib arch (length lib.components + e) ≡ has arch.edges e
-edge_is lib arch e =
-    let far : length lib.components ≤ length lib.components + e = omega arith in
-    let back : (length lib.components + e) - length lib.components ≡ e = omega arith in
-    ap (λ b. cond b (has arch.comps (length lib.components + e)) (has arch.edges ((length lib.components + e) - length lib.components))) (le-ltb (length lib.components + e) (length lib.components) far)
-    ∙ ap (has arch.edges) back
-
-pub same_architecture : (lib : LibraryParts) (a b : ArchitectureParts) → IsArchitecture lib a → IsArchitecture lib b → ((v : ℕ) → v < member_count lib → is_present lib a v ≡ is_present lib b v) → a ≡ b
-same_architecture lib a b isa isb agree =
-    let comps = same_set a.comps b.comps (λ c. elim (bool_cases (nat_lt c (length lib.components))) [
-      | inl low ↦
-          let below = ltb-true c (length lib.components) low in
-          let short : c < member_count lib = omega arith in
-          sym (component_is lib a c below) ∙ agree c short ∙ component_is lib b c below
-      | inr high ↦
-          let over : length lib.components ≤ c = ltb-false c (length lib.components) high in
-          false_if (has a.comps c) (λ on. let below = isa.comps c on in omega arith) ∙ sym (false_if (has b.comps c) (λ on. let below = isb.comps c on in omega arith))
-    ]) in
-    let edges = same_set a.edges b.edges (λ e. elim (bool_cases (nat_lt e (length lib.edges))) [
-      | inl low ↦
-          let below = ltb-true e (length lib.edges) low in
-          let short : length lib.components + e < member_count lib = omega arith in
-          sym (edge_is lib a e) ∙ agree (length lib.components + e) short ∙ edge_is lib b e
-      | inr high ↦
-          let over : length lib.edges ≤ e = ltb-false e (length lib.edges) high in
-          false_if (has a.edges e) (λ on. let below = isa.edges e on in omega arith) ∙ sym (false_if (has b.edges e) (λ on. let below = isb.edges e on in omega arith))
-    ]) in
-    λ i. record { comps = comps i; edges = edges i }
 
 -- the architecture of a cube is the one that lies in it
 pub vector_of_cube : (lib : LibraryParts) (arch : ArchitectureParts) (cube : CubeParts) → IsCubeOf lib arch cube → IsVectorOf lib arch (has cube.ones)

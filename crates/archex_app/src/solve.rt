@@ -61,8 +61,7 @@ fn decide(alloc: Global, bytes: &[u8]) -> Result<Outcome, Memory>
     let problem = problem_of(alloc, lib)?;
     match cheapest(alloc, &problem) {
         Some(best) => {
-            let report =
-                optimal_report(alloc, problem.library(), best.cost, &best.architecture)?;
+            let report = optimal_report(alloc, problem.library(), best.cost, &best.architecture)?;
             Ok(Outcome::Optimal(report))
         }
         None => Ok(Outcome::Infeasible),

@@ -184,10 +184,7 @@ min = 1
             b"kind = \"forbid\"\nfrom = \"a.1\"\nto = \"b.2\"",
             Some(b"5"),
         ),
-        (
-            b"kind = \"count\"\ntype = \"b\"\nmin = 2",
-            Some(b"7"),
-        ),
+        (b"kind = \"count\"\ntype = \"b\"\nmin = 2", Some(b"7")),
         (
             b"kind = \"exclusive\"\ntype = \"c\"\na = \"b\"\nb = \"a\"",
             Some(b"5"),

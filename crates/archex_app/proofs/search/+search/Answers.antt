@@ -1,12 +1,11 @@
-use Rattle.std.proofs.Common.{◌≡◌, ℕ, ◌≤◌, true, false, sym, subst, ap, ◌∙◌, arith, Option, List, option_map, option_to_list}
+use Rattle.std.proofs.Common.{◌≡◌, ℕ, sym, subst, ap, ◌∙◌, arith, Option, option_map, option_to_list}
 use Rattle.std.specs.List.{list_any}
 use Rattle.arch_model.specs.Member.{member_count}
 use Rattle.arch_model.specs.Architecture.{cost_of}
-use Rattle.arch_model.specs.Parts.{LibraryParts}
 use Rattle.rows.specs.Activity.{is_refuted}
 use Rattle.rows.specs.BaseRows.{cost_row_of}
 use Rattle.archex_app.specs.Search.{FixesBelow}
-use Rattle.archex_app.proofs.SearchLaws.{bound_of, dropped_by_rows, dropped_by_bound, cheaper, covered_both}
+use Rattle.archex_app.proofs.SearchLaws.{dropped_by_rows, dropped_by_bound, cheaper, covered_both}
 use Rattle.archex_app.proofs.search.+search.Goals as goal
 
 pub returns-then-breaks_base_row-clause-covered : goal.returns-then-breaks_base_row-clause-covered
@@ -23,7 +22,7 @@ returns-then-next-variable_count-clause-kept t c cost known =
     let full : c.args.next ≡ member_count c.args.problem.now.library = c.if-next-variable_count.true ∙ c.variable_count.ensures.count ∙ ap member_count c.library-lib.ensures.library in
     let fixed = subst (λ (n : ℕ). FixesBelow n c.args.cube.now) full c.requires.«open» in
     let less = cheaper c.args.problem.now.library c.args.cube.now c.args.best.now c.found_in.result.architecture fixed c.found_in.ensures.vector
-        (ap (λ (o : Option ℕ). list_any (λ row. is_refuted row c.args.cube.now) (option_to_list (option_map (cost_row_of c.args.problem.now.library) o))) (sym c.bound_of.ensures) ∙ sym c.breaks_bound.ensures ∙ c.if-breaks_bound.false) cost known in
+    (ap (λ (o : Option ℕ). list_any (λ row. is_refuted row c.args.cube.now) (option_to_list (option_map (cost_row_of c.args.problem.now.library) o))) (sym c.bound_of.ensures) ∙ sym c.breaks_bound.ensures ∙ c.if-breaks_bound.false) cost known in
     omega (arith, less, c.found_in.ensures.found.cost)
 
 pub returns-then-next-variable_count-clause-covered : goal.returns-then-next-variable_count-clause-covered

@@ -1,6 +1,6 @@
-use Rattle.std.proofs.Common.{◌<◌, length, arith, ap, sym, ◌∙◌}
+use Rattle.std.proofs.Common.{◌<◌, length, arith, ap, sym}
 use Rattle.rows.specs.Activity.{is_refuted}
-use Rattle.archex_app.proofs.AnyLaws.{any_at, any_past, any_none}
+use Rattle.archex_app.proofs.AnyLaws.{any_at, any_past}
 use Rattle.archex_app.proofs.search.breaks_base_row.Goals as goal
 
 pub returns-then-refuted : goal.returns-then-refuted

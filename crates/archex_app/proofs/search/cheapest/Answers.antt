@@ -1,8 +1,3 @@
-use Rattle.std.proofs.Common.{◌≡◌, ℕ, ◌≤◌, true, sym, ap, ◌∙◌, arith}
-use Rattle.std.proofs.lemmas.Bool.{le-ltb}
-use Rattle.arch_model.specs.Set.{has}
-use Rattle.arch_model.proofs.SetLaws.{has-empty}
-use Rattle.rows.specs.Parts.{CubeParts}
 use Rattle.archex_app.proofs.SearchLaws.{whole_fixes_none, all_lie_in_whole, none_there, known_is_least}
 use Rattle.archex_app.proofs.search.cheapest.Goals as goal
 

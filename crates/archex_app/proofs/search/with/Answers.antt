@@ -1,4 +1,4 @@
-use Rattle.std.proofs.Common.{◌≡◌, ℕ, ◌+◌, Bool, sym, subst}
+use Rattle.std.proofs.Common.{◌+◌, sym, subst}
 use Rattle.rows.specs.Parts.{CubeParts}
 use Rattle.rows.specs.Cube.{LiesIn}
 use Rattle.archex_app.specs.Search.{FixesBelow}

@@ -1,4 +1,4 @@
-use Rattle.std.proofs.Common.{◌≡◌, ℕ, ◌≤◌, refl, subst, ap, ◌∙◌}
+use Rattle.std.proofs.Common.{◌≤◌, refl, subst, ap, ◌∙◌}
 use Rattle.arch_model.specs.Parts.{LibraryParts, ArchitectureParts}
 use Rattle.arch_model.specs.Architecture.{cost_of}
 use Rattle.rows.specs.Parts.{ProblemParts}
