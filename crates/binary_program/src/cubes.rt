@@ -1,5 +1,5 @@
 // Architectures as cubes in which nothing is free, and back.
-ghost use Rattle.std.specs.Prelude.{◌≡◌, ℕ, ◌+◌, ◌≤◌, ◌<◌, ◌&&◌, nat_lt, length};
+ghost use Rattle.std.specs.Prelude.{◌≡◌, ℕ, ◌+◌, ◌≤◌, ◌<◌, ◌&&◌, nat_lt};
 ghost use Rattle.arch_model.specs.Architecture.{IsArchitecture};
 ghost use Rattle.arch_model.specs.Member as member;
 ghost use Rattle.arch_model.specs.Parts.{ArchitectureParts};
@@ -7,9 +7,7 @@ ghost use Rattle.arch_model.specs.Set.{has};
 ghost use Rattle.binary_program.specs.CubeOf.{FixesAll, IsCubeOf};
 
 use arch_model::limits::{COMPONENTS, EDGES};
-use arch_model::{
-    Architecture, CompId, CompSet, Component, Edge, EdgeId, EdgeSet, Library, MemberSet, VarId,
-};
+use arch_model::{Architecture, CompId, CompSet, EdgeId, EdgeSet, Library, MemberSet, VarId};
 use rows::{Cube, variable_count};
 
 // Whether a member is present in an architecture.
@@ -30,7 +28,8 @@ fn is_present(lib: &Library, arch: &Architecture, v: VarId) -> bool
 pub fn cube_of(lib: &Library, arch: &Architecture) -> Cube
     requires { IsArchitecture lib.now arch.now }
     ensures cube { IsCubeOf lib.now arch.now result }
-    ensures only { (other : ArchitectureParts) → IsArchitecture lib.now other → IsCubeOf lib.now other result → other ≡ arch.now }
+    ensures only { (other : ArchitectureParts) → IsArchitecture lib.now other
+        → IsCubeOf lib.now other result → other ≡ arch.now }
 {
     let mut cube = Cube::whole();
     for i in 0..variable_count(lib) {
