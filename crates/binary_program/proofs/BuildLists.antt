@@ -1,5 +1,5 @@
 -- Lists that are built from the numbered items of another, as loops meet them.
-use Rattle.std.proofs.Common.{◌≡◌, ℕ, zero, suc, ◌+◌, ◌<◌, ◌≤◌, Bool, true, false, cond, List, [], ◌∷◌, ◌++◌, map, filter, length, get_or, take, refl, sym, ap, ◌∙◌, arith}
+use Rattle.std.proofs.Common.{◌≡◌, ℕ, ◌+◌, ◌<◌, ◌≤◌, Bool, true, false, cond, List, [], ◌∷◌, ◌++◌, map, filter, length, get_or, take, refl, sym, ap, ◌∙◌, arith}
 use Rattle.std.specs.List.{flat_map, enumerate_from}
 use Rattle.std.proofs.lemmas.List.{take_all, take_more, length-take-le, append-nil, append_assoc, map-append, map_more}
 use Rattle.std.proofs.lemmas.List.Concat.{flat_map-append}
@@ -60,22 +60,7 @@ items_no q f k xs i j d start before after here e so_far step fails = step ∙ s
 pub picked_all : {X Y : Type 0} (q : ℕ × X → Bool) (f : ℕ × X → Y) (k : ℕ) (xs ys : List X) (i : ℕ) → xs ≡ ys → length xs ≤ i → picked q f k (take i xs) ≡ picked q f k ys
 picked_all q f k xs ys i same past = ap (picked q f k) (take_all i xs past ∙ same)
 
--- loops that append what is made of each item, one thing or several
-pub each_more : {X Y : Type 0} (f : X → Y) (xs : List X) (i : ℕ) (d : X) (start before after : List Y) → i < length xs
-    → before ≡ start ++ map f (take i xs) → after ≡ before ++ f (get_or xs i d) ∷ [] → after ≡ start ++ map f (take (i + 1) xs)
-each_more f xs i d start before after here so_far step =
-    step ∙ ap (λ l. l ++ f (get_or xs i d) ∷ []) so_far ∙ append_assoc start (map f (take i xs)) (f (get_or xs i d) ∷ []) ∙ ap (λ l. start ++ l) (sym (map_more f xs i d here))
-
-join_more : {X Y : Type 0} (f : X → List Y) (xs : List X) (i : ℕ) (d : X) → i < length xs → flat_map f (take (i + 1) xs) ≡ flat_map f (take i xs) ++ f (get_or xs i d)
-join_more f xs i d here =
-    ap (flat_map f) (take_more xs i d here) ∙ flat_map-append f (take i xs) (get_or xs i d ∷ []) ∙ ap (λ l. flat_map f (take i xs) ++ l) (append-nil (f (get_or xs i d)))
-
-pub joined_more : {X Y : Type 0} (f : X → List Y) (xs : List X) (i : ℕ) (d : X) (start before after : List Y) → i < length xs
-    → before ≡ start ++ flat_map f (take i xs) → after ≡ before ++ f (get_or xs i d) → after ≡ start ++ flat_map f (take (i + 1) xs)
-joined_more f xs i d start before after here so_far step =
-    step ∙ ap (λ l. l ++ f (get_or xs i d)) so_far ∙ append_assoc start (flat_map f (take i xs)) (f (get_or xs i d)) ∙ ap (λ l. start ++ l) (sym (join_more f xs i d here))
-
--- the same where each item is seen by a number
+-- loops that append what is made of each item, which is seen by a number: one thing or several
 pub each_number_more : {X Y : Type 0} (g : X → ℕ) (f : ℕ → Y) (xs : List X) (i : ℕ) (d : X) (start before after : List Y) → i < length xs
     → before ≡ start ++ map f (map g (take i xs)) → after ≡ before ++ f (g (get_or xs i d)) ∷ [] → after ≡ start ++ map f (map g (take (i + 1) xs))
 each_number_more g f xs i d start before after here so_far step =

@@ -1,9 +1,8 @@
 -- The terms of rows are few, with small coefficients, over a library's members.
-use Rattle.std.proofs.Common.{◌≡◌, ℕ, zero, suc, ◌+◌, ◌^◌, ◌<◌, ◌≤◌, ℤ, pos, negsuc, neg_ℤ, ◌-ℤ◌, unsigned_abs, Bool, not, nat_eq, List, [], ◌∷◌, ◌++◌, map, filter, length, get_or, refl, sym, ap, subst, ◌∙◌, arith, inl, inr}
+use Rattle.std.proofs.Common.{◌≡◌, ℕ, zero, suc, ◌+◌, ◌^◌, ◌<◌, ◌≤◌, ℤ, pos, negsuc, neg_ℤ, ◌-ℤ◌, unsigned_abs, Bool, not, List, [], ◌∷◌, ◌++◌, map, filter, length, get_or, refl, sym, ap, subst, ◌∙◌, arith, inl, inr}
 use Rattle.std.specs.List.{All, enumerate_from}
-use Rattle.std.proofs.lemmas.Int.{ints}
 use Rattle.std.proofs.lemmas.List.{length-map, length-append}
-use Rattle.std.proofs.lemmas.List.Elements.{All-nil, All-cons, All-append, All-map, All-filter, All-weaker, All-from_get_or}
+use Rattle.std.proofs.lemmas.List.Elements.{All-nil, All-cons, All-append, All-map, All-filter, All-from_get_or}
 use Rattle.std.proofs.lemmas.List.Filters.{length-filter_both}
 use Rattle.std.proofs.lemmas.List.FromFn.{length-enumerate_from, get_or-enumerate_from}
 use Rattle.std.proofs.lemmas.Option.{slice_get_cases}
@@ -22,13 +21,7 @@ use Rattle.binary_program.specs.Terms.{numbers_of, AreVariables, AreTerms}
 use Rattle.binary_program.proofs.BuildLists.{picked}
 use Rattle.binary_program.proofs.BuildTerms.{at_coef, number, balance, brought, asked, supplies_small, demands_small}
 
--- variables and terms in a wider range
-pub variables_wider : (n m k l : ℕ) (vars : List VarId) → n ≤ m → k ≤ l → AreVariables n k vars → AreVariables m l vars
-variables_wider n m k l vars h j are = record {
-  few = let few = are.few in omega arith;
-  below = All-weaker (λ v. v.0 < n) (λ v. v.0 < m) (λ v below. omega arith) vars are.below;
-}
-
+-- terms in a wider range
 pub terms_along : (n k m : ℕ) (xs ys : List Term) → xs ≡ ys → k ≤ m → AreTerms n k ys → AreTerms n m xs
 terms_along n k m xs ys e h are = subst (AreTerms n m) (sym e) (record { few = let few = are.few in omega arith; small = are.small; below = are.below })
 
@@ -67,9 +60,6 @@ numbered_all : {X : Type 0} (P : ℕ × X → Type 0) (k : ℕ) (xs : List X) (d
 numbered_all P k xs d each = All-from_get_or P (enumerate_from k xs) (0, d) (λ i short.
     let here : i < length xs = omega (arith, short, length-enumerate_from k xs) in
     subst P (sym (get_or-enumerate_from k xs i (0, d) here)) (each i here))
-
-abbrev numbered_terms : {X : Type 0} → (ℕ × X → ℤ) → List (ℕ × X) → List Term
-numbered_terms f ps = map (λ p. term p.0 (f p)) ps
 
 pub each_term : {X : Type 0} (f : ℕ × X → ℤ) (k n m : ℕ) (xs : List X) (d : X) → k + length xs ≤ n → length xs ≤ m → ((i : ℕ) → i < length xs → unsigned_abs (f (k + i, get_or xs i d)) ≤ 10 ^ 12)
     → AreTerms n m (map (λ p. term p.0 (f p)) (enumerate_from k xs))

@@ -7,10 +7,9 @@ use Rattle.std.proofs.lemmas.List.Elements.{All-map, All-filter, All-weaker, All
 use Rattle.std.proofs.lemmas.List.FromFn.{length-range_with_len, get_or-range_with_len, length-enumerate_from, get_or-enumerate_from}
 use Rattle.std.proofs.lemmas.List.Kept.{IsStrictlyIncreasing-filter}
 use Rattle.rows.specs.declared.row.Term.{Term}
-use Rattle.rows.specs.Parts.{RowParts}
 use Rattle.rows.specs.Row.{IsRow, IsSized, row_of, row_parts, term, coef_at, is_nonzero, collected}
 use Rattle.rows.proofs.Activities.{plain}
-use Rattle.rows.proofs.WhatIsForced.{collected_is, chosen_terms}
+use Rattle.rows.proofs.WhatIsForced.{collected_is}
 use Rattle.binary_program.proofs.BuildSums.{nonzero, nonzero_collected}
 
 -- the variables of collected terms ascend

@@ -1,5 +1,5 @@
 -- Full cubes and architectures: each leads to the other.
-use Rattle.std.proofs.Common.{◌≡◌, ℕ, ◌+◌, ◌-◌, ◌<◌, ◌≤◌, Bool, true, false, cond, not, ◌&&◌, ◌||◌, nat_eq, nat_lt, List, length, Some, refl, sym, ap, subst, ◌∙◌, arith, inl, inr, if◌then◌else◌}
+use Rattle.std.proofs.Common.{◌≡◌, ℕ, ◌+◌, ◌-◌, ◌<◌, ◌≤◌, Bool, true, false, cond, ◌&&◌, ◌||◌, nat_eq, nat_lt, List, length, Some, refl, sym, ap, subst, ◌∙◌, arith, inl, inr, if◌then◌else◌}
 use Rattle.std.specs.List.{All, slice_get}
 use Rattle.std.proofs.lemmas.Bool.{lt-ltb, le-ltb, ltb-true, cases_lt}
 use Rattle.std.proofs.lemmas.Bool.Decides.{eqb_tells}
@@ -16,7 +16,7 @@ use Rattle.arch_model.proofs.Ranges.{edge_tails, edge_heads}
 use Rattle.arch_model.proofs.SetLaws.{has-empty, has-put, same_set}
 use Rattle.arch_model.proofs.Vectors.{keeps_ends, from_ends}
 use Rattle.rows.specs.Parts.{CubeParts}
-use Rattle.rows.specs.Cube.{IsCube, whole, fixed_at, is_free}
+use Rattle.rows.specs.Cube.{IsCube, whole, fixed_at}
 use Rattle.binary_program.specs.CubeOf.{FixesAll, IsCubeOf}
 
 -- one more number is below the next
@@ -87,10 +87,6 @@ cube_more lib arch n b cube after so_far is step = record {
   fixed = λ k. ap (λ c. has c.fixed k) step ∙ fixed_more n cube.fixed so_far.fixed k;
   ones = λ k. ap (λ c. has c.ones k) step ∙ passing_if (is_present lib arch) n b cube.ones so_far.ones is k;
 }
-
--- the test of the next member, which is free yet
-pub next_is_free : (lib : LibraryParts) (arch : ArchitectureParts) (n : ℕ) (cube : CubeParts) → IsCubeUpTo lib arch n cube → is_free cube n ≡ true
-next_is_free lib arch n cube so_far = ap not (so_far.fixed n ∙ le-ltb n n (omega arith))
 
 -- a member is a component below the number of components, and an edge from there on
 present_component : (lib : LibraryParts) (arch : ArchitectureParts) (c : ℕ) → c < length lib.components → is_present lib arch c ≡ has arch.comps c
@@ -176,13 +172,6 @@ read_off_sets lib ones members comps edges components rows arch right ends same_
     (λ c. ap (λ a. has a.comps c) made ∙ comps_are c ∙ ap (λ n. nat_lt c n && has members c) (ap length same_components) ∙ ap (λ s. nat_lt c (length lib.components) && has s c) same_members)
     (λ e. ap (λ a. has a.edges e) made ∙ edges_are e ∙ ap (λ n. nat_lt e n && has members (length components + e)) (ap length same_rows)
     ∙ ap (λ n. nat_lt e (length lib.edges) && has members (n + e)) (ap length same_components) ∙ ap (λ s. nat_lt e (length lib.edges) && has s (length lib.components + e)) same_members)
-
--- once all members are fixed, it is the cube of the architecture
-pub cube_ends : (lib : LibraryParts) (arch : ArchitectureParts) (n : ℕ) (cube : CubeParts) → IsCubeUpTo lib arch n cube → n ≡ member_count lib → IsCubeOf lib arch cube
-cube_ends lib arch n cube so_far all = record {
-  full = λ v. so_far.fixed v ∙ ap (nat_lt v) all;
-  ones = λ v short. let here : v < n = omega arith in so_far.ones v ∙ ap (λ b. b && is_present lib arch v) (lt-ltb v n here);
-}
 
 -- and an architecture has no other cube
 same_cube : (lib : LibraryParts) (arch : ArchitectureParts) (a b : CubeParts) → IsCube a → IsCube b → IsCubeOf lib arch a → IsCubeOf lib arch b → b ≡ a

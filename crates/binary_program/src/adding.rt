@@ -1,9 +1,9 @@
 // One row of raw terms: the coefficients of each variable are added up.
-ghost use Rattle.std.specs.Prelude.{◌≡◌, ℕ, ◌+◌, ◌*◌, ◌≤◌, ◌<◌, ◌^◌, ◌++◌, ◌∷◌, [], IfOk, OnOk, length, unsigned_abs, slice_index_or};
-ghost use Rattle.std.specs.Prelude.{pos, map, filter};
+ghost use Rattle.std.specs.Prelude.{◌≡◌, ℕ, ◌*◌, ◌≤◌, ◌<◌, ◌^◌, ◌++◌, ◌∷◌, [], IfOk, OnOk, length, map, filter};
+ghost use Rattle.std.specs.Prelude.{pos, unsigned_abs, slice_index_or};
 ghost use Rattle.std.specs.List.{All, enumerate_from};
 ghost use Rattle.arch_model.specs.Member.{member_count};
-ghost use Rattle.rows.specs.Row.{IsSized, coef_at, collected, is_nonzero, row_of, term};
+ghost use Rattle.rows.specs.Row.{IsSized, coef_at, is_nonzero, row_of, term};
 ghost use Rattle.rows.specs.BaseRows.{member_row};
 ghost use Rattle.binary_program.specs.Terms.{AreTerms};
 

@@ -1,6 +1,5 @@
 // The problem of a library: the rows of all patterns after those of edges and requirements.
 ghost use Rattle.std.specs.Prelude.{◌≡◌, ◌++◌, IfOk, OnOk, length};
-ghost use Rattle.std.specs.List.{flat_map};
 ghost use Rattle.arch_model.specs.Library.{IsPatternRow};
 ghost use Rattle.rows.specs.BaseRows.{base_rows_of, pattern_rows};
 ghost use Rattle.rows.specs.Problem.{DecidePatterns, problem_parts};

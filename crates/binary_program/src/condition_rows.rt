@@ -1,5 +1,5 @@
 // The rows of patterns that say what follows from what, or what excludes what.
-ghost use Rattle.std.specs.Prelude.{◌≡◌, ◌≤◌, ◌<◌, ◌++◌, ◌∷◌, [], OnOk, map, pos, neg_ℤ, length, nat_eq, ◌&&◌};
+ghost use Rattle.std.specs.Prelude.{◌≡◌, ◌<◌, ◌++◌, ◌∷◌, [], OnOk, map, length, pos, neg_ℤ};
 ghost use Rattle.std.specs.List.{flat_map};
 ghost use Rattle.arch_model.specs.Member.{member_count};
 ghost use Rattle.arch_model.specs.Template.{instances_of};
@@ -11,7 +11,7 @@ use crate::adding::push_row;
 use crate::terms::{EdgeKind, edges, instances, minus, minus_times, push_terms};
 use arch_model::limits::EDGES;
 use arch_model::{CompId, Library, Memory, VarId};
-use rows::{Row, Term};
+use rows::Row;
 use std::alloc::Global;
 
 // Appends the row that some of `vars` is at 1 where `v` is: their sum - x_v >= 0.

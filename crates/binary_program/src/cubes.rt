@@ -1,5 +1,5 @@
 // Architectures as cubes in which nothing is free, and back.
-ghost use Rattle.std.specs.Prelude.{◌≡◌, ℕ, ◌+◌, ◌≤◌, ◌<◌, ◌&&◌, nat_lt, length};
+ghost use Rattle.std.specs.Prelude.{◌≡◌, ℕ, ◌+◌, ◌≤◌, ◌<◌, ◌&&◌, nat_lt};
 ghost use Rattle.arch_model.specs.Architecture.{IsArchitecture};
 ghost use Rattle.arch_model.specs.Member as member;
 ghost use Rattle.arch_model.specs.Parts.{ArchitectureParts};
@@ -9,9 +9,7 @@ ghost use Rattle.rows.specs.Parts.{CubeParts};
 ghost use Rattle.binary_program.specs.CubeOf.{FixesAll, IsCubeOf};
 
 use arch_model::limits::{COMPONENTS, EDGES};
-use arch_model::{
-    Architecture, CompId, CompSet, Component, Edge, EdgeId, EdgeSet, Library, MemberSet, VarId,
-};
+use arch_model::{Architecture, CompId, CompSet, EdgeId, EdgeSet, Library, MemberSet, VarId};
 use rows::{Cube, variable_count};
 
 // Whether a member is present in an architecture.

@@ -1,7 +1,6 @@
 // The rows of patterns that bound how many of some members are present.
-ghost use Rattle.std.specs.Prelude.{◌≡◌, ◌≤◌, ◌<◌, ◌++◌, ◌∷◌, [], OnOk, IfSome, map, pos, neg_ℤ, length};
+ghost use Rattle.std.specs.Prelude.{◌≡◌, ◌≤◌, ◌<◌, ◌++◌, ◌∷◌, [], OnOk, map, pos, neg_ℤ};
 ghost use Rattle.std.specs.List.{flat_map};
-ghost use Rattle.arch_model.specs.Library.{AreBounds};
 ghost use Rattle.arch_model.specs.Member.{member_count};
 ghost use Rattle.arch_model.specs.Template.{instances_of};
 ghost use Rattle.rows.specs.Row.{term};
@@ -12,7 +11,7 @@ use crate::adding::push_row;
 use crate::terms::{EdgeKind, edges, instances, minus_times, push_terms};
 use arch_model::limits::EDGES;
 use arch_model::{CompId, Library, Memory, VarId};
-use rows::{Row, Term};
+use rows::Row;
 use std::alloc::Global;
 
 // Appends the row that at most `max` of some variables are at 1, where there is a greatest number.

@@ -5,7 +5,7 @@ ghost use Rattle.rows.specs.BaseRows as base;
 
 use crate::adding::push_row;
 use crate::terms::{edge_variable, minus, plus};
-use arch_model::{CompId, Edge, Library, Memory, Requirement, VarId};
+use arch_model::{CompId, Library, Memory, VarId};
 use rows::Row;
 use std::alloc::Global;
 

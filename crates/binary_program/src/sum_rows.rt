@@ -1,12 +1,12 @@
 // The rows of patterns that add up supplies, demands and costs.
-ghost use Rattle.std.specs.Prelude.{◌≡◌, ◌≤◌, ◌<◌, ◌^◌, ◌++◌, ◌∷◌, [], OnOk, map, pos, neg_ℤ, length};
+ghost use Rattle.std.specs.Prelude.{◌≡◌, ◌≤◌, ◌<◌, ◌^◌, ◌++◌, ◌∷◌, [], OnOk, map, pos, neg_ℤ};
 ghost use Rattle.arch_model.specs.Template.{instances_of};
 ghost use Rattle.rows.specs.BaseRows as base;
 
 use crate::adding::push_row;
 use crate::terms::{balance_terms, cost_terms, instances, push_demands, push_supplies};
-use arch_model::{CompId, Library, Memory, VarId};
-use rows::{Row, Term};
+use arch_model::{CompId, Library, Memory};
+use rows::Row;
 use std::alloc::Global;
 
 /// Appends the row that the supply of all present components sums to at least their demand.

@@ -1,7 +1,7 @@
 // Which variables a row is over, and its terms before they are added up.
-ghost use Rattle.std.specs.Prelude.{◌≡◌, ℕ, ◌+◌, ◌*◌, ◌≤◌, ◌<◌, ◌^◌, ◌++◌, IfOk, OnOk, length, map, unsigned_abs};
+ghost use Rattle.std.specs.Prelude.{◌≡◌, ℕ, ◌+◌, ◌≤◌, ◌<◌, ◌^◌, ◌++◌, IfOk, OnOk, length, map};
 ghost use Rattle.std.specs.Prelude.{pos, neg_ℤ, ◌-ℤ◌, nat_eq};
-ghost use Rattle.std.specs.List.{All, enumerate_from};
+ghost use Rattle.std.specs.List.{enumerate_from};
 ghost use Rattle.arch_model.specs.Member.{member_count};
 ghost use Rattle.arch_model.specs.Pattern as pattern;
 ghost use Rattle.arch_model.specs.Template.{instances_of};
@@ -10,7 +10,7 @@ ghost use Rattle.rows.specs.BaseRows as base;
 ghost use Rattle.binary_program.specs.Terms as spec;
 
 use arch_model::limits::{COMPONENTS, EDGES, MEMBERS};
-use arch_model::{CompId, Component, Edge, Library, Memory, VarId};
+use arch_model::{CompId, Edge, Library, Memory, VarId};
 use rows::{Term, member_cost, variable_count};
 use std::alloc::Global;
 

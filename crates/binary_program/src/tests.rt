@@ -1,6 +1,5 @@
 // Base rows of small libraries, worked out by hand, and cubes of architectures.
 ghost use Rattle.arch_model.specs.Name.{IsTypeName};
-ghost use Rattle.binary_program.specs.CubeOf.{FixesAll};
 
 use crate::{architecture_of, cube_of, problem_of, row_from};
 use arch_model::{
@@ -444,6 +443,7 @@ fn one_way() -> Architecture {
 #[test]
 fn an_architecture_is_a_full_cube(rt: HostRuntime) -> Result<(), Fail> {
     let lib = two_ways(&rt, &[], &[])?;
+    assert_eq!(rt; lib.components().len(), 4);
     let arch = one_way();
     assert!(rt; fits(&lib, &arch));
     let cube = cube_of(&lib, &arch);

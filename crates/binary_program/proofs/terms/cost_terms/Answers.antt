@@ -1,4 +1,4 @@
-use Rattle.std.proofs.Common.{◌≡◌, refl, ap, sym, ◌∙◌, arith}
+use Rattle.std.proofs.Common.{refl, arith}
 use Rattle.binary_program.proofs.BuildTerms.{costs_more, costs_all}
 use Rattle.binary_program.proofs.BuildRanges.{cost_push, terms_along}
 use Rattle.binary_program.proofs.terms.cost_terms.Goals as goal

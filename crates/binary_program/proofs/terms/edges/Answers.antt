@@ -1,4 +1,4 @@
-use Rattle.std.proofs.Common.{◌≡◌, ◌+◌, ◌++◌, ◌∷◌, [], length, refl, ap, sym, ◌∙◌, arith}
+use Rattle.std.proofs.Common.{◌++◌, ◌∷◌, [], length, refl, ap, sym, ◌∙◌, arith}
 use Rattle.arch_model.proofs.Ranges.{blank_edge}
 use Rattle.binary_program.proofs.BuildLists.{items_yes, items_no}
 use Rattle.binary_program.proofs.BuildTerms.{of_kind, var_of, var_is, numbers_all, variables_all}

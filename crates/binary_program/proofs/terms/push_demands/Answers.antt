@@ -1,5 +1,4 @@
-use Rattle.std.proofs.Common.{◌++◌, ◌∷◌, [], length, refl, pos, neg_ℤ, ap, sym, ◌∙◌}
-use Rattle.rows.specs.Row.{term}
+use Rattle.std.proofs.Common.{◌++◌, ◌∷◌, [], length, refl, ap, sym, ◌∙◌}
 use Rattle.arch_model.proofs.Ranges.{blank_edge}
 use Rattle.binary_program.proofs.BuildLists.{items_yes, items_no, picked_all}
 use Rattle.binary_program.proofs.BuildTerms.{out_of, asked, minus_times_is}

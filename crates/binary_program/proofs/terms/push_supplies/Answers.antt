@@ -1,5 +1,4 @@
-use Rattle.std.proofs.Common.{◌++◌, ◌∷◌, [], length, refl, pos, to_z, ap, sym, ◌∙◌}
-use Rattle.std.specs.Int.{w128}
+use Rattle.std.proofs.Common.{◌++◌, ◌∷◌, [], length, refl, pos, ap, sym, ◌∙◌}
 use Rattle.arch_model.proofs.Ranges.{blank_edge}
 use Rattle.binary_program.proofs.BuildLists.{items_yes, items_no, picked_all}
 use Rattle.binary_program.proofs.BuildTerms.{into, brought, plain_of, term_is}
