@@ -5,8 +5,8 @@
 //! out: what each status says of the library's bytes and of all its architectures, which fault is the cause of each
 //! status that isn't an answer, and which status always comes where nothing outside failed.
 //!
-//! The search is a plain recursion over the components, then the edges, cube by cube: a cube is dropped where one of the
-//! library's base rows is refuted, or the cost row for the best architecture so far (branch and bound, a textbook
+//! The search is a plain recursion over the components, then the edges, cube by cube: a cube is dropped where one of
+//! the library's base rows is refuted, or the cost row for the best architecture so far (branch and bound, a textbook
 //! method). It takes no memory, and may look at 2^v cubes of v components and edges.
 //!
 //! Stands on `lib_read` for the library, `binary_program` for the rows that say what its patterns say, `rows` for what

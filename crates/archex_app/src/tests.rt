@@ -149,7 +149,8 @@ pattern = [
 }
 
 // A sink that must be fed over a bus costs 5. A cap of 5 lets that stand and one of 4 doesn't; the supply of 3 never
-// meets the demand of 5, neither in total nor at the bus.
+// meets the demand of 5, neither in total nor at the bus; a second bus costs 2 more with its edge, and 1 more if it has
+// to feed the sink as well.
 #[test]
 fn further_patterns_narrow_the_answer(rt: HostRuntime) -> Result<(), Fail> {
     let alloc = rt.alloc();
@@ -174,47 +175,47 @@ type = \"b\"
 from = \"a\"
 min = 1
 ";
-    let rows: [(&[u8], Option<&[u8]>); 9] = [
-        (b"", Some(b"5")),
-        (b"kind = \"cost_cap\"\nmax = 5", Some(b"5")),
-        (b"kind = \"cost_cap\"\nmax = 4", None),
-        (b"kind = \"total_supply\"", None),
-        (b"kind = \"local_supply\"\ntype = \"b\"", None),
+    let two_ways = b"kind = \"in_needs_out\"
+type = \"b\"
+from = \"a\"
+to = \"c\"
+[[pattern]]
+kind = \"outdegree\"
+type = \"a\"
+to = \"b\"
+min = 2";
+    let rows: [(&[u8], &[u8]); 9] = [
+        (b"", b"status optimal\ncost 5\n"),
+        (b"kind = \"cost_cap\"\nmax = 5", b"status optimal\ncost 5\n"),
+        (b"kind = \"cost_cap\"\nmax = 4", b"status infeasible\n"),
+        (b"kind = \"total_supply\"", b"status infeasible\n"),
+        (
+            b"kind = \"local_supply\"\ntype = \"b\"",
+            b"status infeasible\n",
+        ),
         (
             b"kind = \"forbid\"\nfrom = \"a.1\"\nto = \"b.2\"",
-            Some(b"5"),
+            b"status optimal\ncost 5\n",
         ),
-        (b"kind = \"count\"\ntype = \"b\"\nmin = 2", Some(b"7")),
+        (
+            b"kind = \"count\"\ntype = \"b\"\nmin = 2",
+            b"status optimal\ncost 7\n",
+        ),
         (
             b"kind = \"exclusive\"\ntype = \"c\"\na = \"b\"\nb = \"a\"",
-            Some(b"5"),
+            b"status optimal\ncost 5\n",
         ),
-        (
-            b"kind = \"in_needs_out\"\ntype = \"b\"\nfrom = \"a\"\nto = \"c\"\n[[pattern]]\nkind = \"outdegree\"\ntype = \"a\"\nto = \"b\"\nmin = 2",
-            Some(b"8"),
-        ),
+        (two_ways, b"status optimal\ncost 8\n"),
     ];
-    for (further, cost) in rows {
+    for (further, front) in rows {
         let mut library = fed.to_vec(alloc)?;
         if !further.is_empty() {
             library.extend_from_slice(b"[[pattern]]\n")?;
             library.extend_from_slice(further)?;
         }
         let words = &["solve", "x.toml"];
-        let (ended, printed) = run_on(alloc, words, library.as_slice(), &[], &[])?;
-        match cost {
-            Some(cost) => {
-                let mut front = b"status optimal\ncost ".to_vec(alloc)?;
-                front.extend_from_slice(cost)?;
-                front.push(b'\n')?;
-                assert_eq!(rt; ended, Status::OPTIMAL);
-                assert!(rt; printed.as_slice().starts_with(front.as_slice()));
-            }
-            None => {
-                assert_eq!(rt; ended, Status::INFEASIBLE);
-                assert_eq!(rt; printed.as_slice(), b"status infeasible\n".as_slice());
-            }
-        }
+        let (_, printed) = run_on(alloc, words, library.as_slice(), &[], &[])?;
+        assert!(rt; printed.as_slice().starts_with(front));
     }
     Ok(())
 }
