@@ -5,12 +5,13 @@ use Rattle.archex_app.specs.declared.solve.Outcome.TheVariants.{Optimal, Infeasi
 use Rattle.archex_app.specs.Report.{infeasible_text}
 use Rattle.archex_app.specs.Answer.{ShowsCheapest, ShowsInfeasible, ShowsRefusal}
 
--- the text that is due, and the status that goes with it
+-- the text that is due
 abbrev pub text_of : Outcome → List ℕ
 text_of (Optimal report) = string_bytes report
 text_of Infeasible = infeasible_text
 text_of (Refused line) = string_bytes line
 
+-- the status that goes with it
 abbrev pub status_of : Outcome → ℕ
 status_of (Optimal report) = 0
 status_of Infeasible = 1

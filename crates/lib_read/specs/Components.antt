@@ -16,6 +16,7 @@ number (negsuc n) = 0
 abbrev pub number_at : List ℕ → Data → Option ℕ
 number_at key row = option_map number (integer_at key row)
 
+-- the number at a key, or the one that stands for an absent one
 abbrev pub number_or : ℕ → List ℕ → Data → ℕ
 number_or absent key row = unwrap_or (number_at key row) absent
 

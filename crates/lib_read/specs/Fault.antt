@@ -24,6 +24,7 @@ class_rank UnknownName = 8
 class_rank Range = 9
 class_rank TooMany = 10
 
+-- the place of a table in the order of faults
 abbrev pub table_rank : TableName → ℕ
 table_rank Library = 0
 table_rank Types = 1

@@ -15,6 +15,7 @@ use Rattle.lib_read.specs.Tree.{text_at, keys_in, rows_of}
 use Rattle.lib_read.specs.Schema.{KeyRow, table_keys, is_faulty}
 use Rattle.lib_read.specs.Rows.{type_names, types_of, links_of}
 
+-- a fault of these four parts
 abbrev pub fault : LibClass → TableName → ℕ → List ℕ → LibFault
 fault class t position key = record { class = class; table = t; position = position; key = key }
 
@@ -56,17 +57,19 @@ repeat_faults same value t key top =
     flat_map (λ p. if is_repeat same value (take (p.0 - 1) (rows_of t top)) p.1 then fault Duplicate t p.0 key ∷ [] else [])
     (enumerate_from 1 (rows_of t top))
 
--- the two types' names of a link, and whether two links have the same
+-- the two types' names of a link
 abbrev pub link_ends : Data → Option (List ℕ × List ℕ)
 link_ends row = option_and_then (λ from. option_map (λ to. (from, to)) (text_at (codes "to") row)) (text_at (codes "from") row)
 
+-- whether two links have the same two types' names
 abbrev pub same_ends : List ℕ × List ℕ → List ℕ × List ℕ → Bool
 same_ends a b = bytes_eq a.0 b.0 && bytes_eq a.1 b.1
 
--- a type with an earlier type's name; a link with the pair of an earlier link
+-- a type with an earlier type's name
 abbrev pub repeated_names : Data → List LibFault
 repeated_names top = repeat_faults bytes_eq (text_at (codes "name")) Types (codes "name") top
 
+-- a link with the pair of an earlier link
 abbrev pub repeated_links : Data → List LibFault
 repeated_links top = repeat_faults same_ends link_ends Links (codes "to") top
 

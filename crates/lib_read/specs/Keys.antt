@@ -9,9 +9,11 @@ use Rattle.lib_read.specs.declared.fault.LibError.{LibError}
 use Rattle.lib_read.specs.declared.fault.LibError.TheVariants as error
 use Rattle.lib_read.specs.Schema.{KeyRow}
 
+-- what contracts see of a key of the code's schema
 abbrev pub key_view : Key → KeyRow
 key_view k = record { name = k.name.now; required = k.required; meaning = k.meaning }
 
+-- what contracts see of a fault while the file is read
 abbrev pub fault_view : code.Fault → LibFault
 fault_view f = record { class = f.class; table = f.table; position = f.position; key = f.key.now }
 

@@ -18,6 +18,7 @@ abbrev pub judged : Data → Option LibFault → Result LibraryParts LibFault
 judged top None = Ok (library_of_tree top)
 judged top (Some f) = Err f
 
+-- the library of a document, or its least fault; no document is a fault as well
 abbrev pub of_tree : Option Data → Result LibraryParts LibFault
 of_tree None = Err (fault NotToml Library 0 (codes "-"))
 of_tree (Some top) = judged top (least (faults_of top))

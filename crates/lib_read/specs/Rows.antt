@@ -28,6 +28,7 @@ type_names top = filter_map (text_at (codes "name")) (rows_of Types top)
 abbrev pub type_at : List (List ℕ) → List ℕ → Data → ℕ
 type_at names key row = unwrap_or (option_and_then (λ text. position (bytes_eq text) names) (text_at key row)) 0
 
+-- the row of a type, with the defaults of absent keys
 abbrev pub type_row : Data → TypeRow
 type_row row = record {
   name = unwrap_or (text_at (codes "name") row) [];
@@ -39,6 +40,7 @@ type_row row = record {
   fail = number_or 0 (codes "fail") row;
 }
 
+-- the row of a link, whose types are numbered by their names
 abbrev pub link_row : List (List ℕ) → Data → LinkRow
 link_row names row = record {
   from = type_at names (codes "from") row;
@@ -47,10 +49,11 @@ link_row names row = record {
   fail = 0;
 }
 
--- the least number of a pattern's row, and the greatest
+-- the least number of a pattern's row
 abbrev pub least_of : Data → ℕ
 least_of row = number_or 0 (codes "min") row
 
+-- the greatest number of a pattern's row, where one is given
 abbrev pub most_of : Data → Option ℕ
 most_of row = number_at (codes "max") row
 
@@ -71,6 +74,7 @@ kind_row names components row TotalSupply = pattern.TotalSupply
 kind_row names components row LocalSupply = pattern.LocalSupply (type_at names (codes "type") row)
 kind_row names components row CostCap = pattern.CostCap (number_or 0 (codes "max") row)
 
+-- the pattern of a row, where its kind is one of the ten words
 abbrev pub pattern_row : List (List ℕ) → List (List ℕ) → Data → Option Pattern
 pattern_row names components row = option_map (kind_row names components row) (row_kind row)
 
@@ -81,22 +85,27 @@ KindFits row InDegree = AreBounds (least_of row) (most_of row)
 KindFits row OutDegree = AreBounds (least_of row) (most_of row)
 KindFits row _ = Unit {0}
 
+-- so are those of a row of any kind
 abbrev pub PatternFits : Data → Type 0
 PatternFits row = IfSome (row_kind row) (KindFits row)
 
--- the rows of a document
+-- the types of a document
 abbrev pub types_of : Data → List TypeRow
 types_of top = map type_row (rows_of Types top)
 
+-- the links, by the names of the types
 abbrev pub links_by : List (List ℕ) → Data → List LinkRow
 links_by names top = map (link_row names) (rows_of Links top)
 
+-- the patterns, by the names of the types and of the components
 abbrev pub patterns_by : List (List ℕ) → List (List ℕ) → Data → List Pattern
 patterns_by names components top = filter_map (pattern_row names components) (rows_of Patterns top)
 
+-- the links of a document
 abbrev pub links_of : Data → List LinkRow
 links_of top = links_by (type_names top) top
 
+-- the patterns of a document
 abbrev pub patterns_of : Data → List Pattern
 patterns_of top = patterns_by (type_names top) (component_names top) top
 

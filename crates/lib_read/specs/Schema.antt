@@ -24,16 +24,19 @@ pub record KeyRow : Type 0 where
   pub required : Bool
   pub meaning : Meaning
 
+-- a key that is required
 abbrev pub needs : List ℕ → Meaning → KeyRow
 needs name meaning = record { name = name; required = true; meaning = meaning }
 
+-- a key that may be absent
 abbrev pub takes : List ℕ → Meaning → KeyRow
 takes name meaning = record { name = name; required = false; meaning = meaning }
 
--- the keys of the document, of a type and of a link, in byte order
+-- the keys of the document, in byte order
 abbrev pub library_keys : List KeyRow
 library_keys = takes (codes "link") Rows ∷ (takes (codes "pattern") Rows ∷ (takes (codes "type") Rows ∷ []))
 
+-- the keys of a type
 abbrev pub type_keys : List KeyRow
 type_keys =
     takes (codes "cost") (Number 0 1000000000000)
@@ -44,6 +47,7 @@ type_keys =
     ∷ (needs (codes "role") RoleWord
     ∷ (takes (codes "supply") (Number 0 1000000000000) ∷ []))))))
 
+-- the keys of a link
 abbrev pub link_keys : List KeyRow
 link_keys = takes (codes "cost") (Number 0 1000000000000) ∷ (needs (codes "from") TypeName ∷ (needs (codes "to") TypeName ∷ []))
 
@@ -103,6 +107,7 @@ role_of text =
     else if bytes_eq text (codes "sink") then Some Sink
     else None
 
+-- the kind of a pattern that a text names
 abbrev pub kind_of : List ℕ → Option Kind
 kind_of text =
     if bytes_eq text (codes "count") then Some Count
@@ -145,10 +150,11 @@ abbrev pub is_between : ℕ → ℕ → ℤ → Bool
 is_between low high (pos n) = nat_le low n && nat_le n high
 is_between low high (negsuc n) = false
 
--- whether the value at a key is a text that fails a test, or an integer
+-- whether the value at a key is a text that fails a test
 abbrev pub text_fails : (List ℕ → Bool) → List ℕ → Data → Bool
 text_fails test key row = option_map_or (λ text. not (test text)) (text_at key row) false
 
+-- whether the value at a key is an integer that fails a test
 abbrev pub integer_fails : (ℤ → Bool) → List ℕ → Data → Bool
 integer_fails test key row = option_map_or (λ z. not (test z)) (integer_at key row) false
 
@@ -164,13 +170,16 @@ is_out_of_range OtherName key row = option_map_or (λ first. option_map_or (byte
 is_out_of_range (Number low high) key row = integer_fails (is_between low high) key row
 is_out_of_range _ key row = false
 
+-- whether the value at a key isn't of the kind that its meaning asks for
 abbrev pub is_wrong_kind : Meaning → List ℕ → Data → Bool
 is_wrong_kind meaning key row = option_map_or (λ value. not (fits_meaning meaning value)) (get key row) false
 
+-- whether the text at a key should be a type's name and isn't of the form
 abbrev pub is_bad_name : Meaning → List ℕ → Data → Bool
 is_bad_name NewName key row = text_fails is_type_name key row
 is_bad_name _ key row = false
 
+-- whether the text at a key names a type or component that doesn't exist
 abbrev pub is_unknown_name : Data → List (List ℕ) → Meaning → List ℕ → Data → Bool
 is_unknown_name top names TypeName key row = text_fails (is_named names) key row
 is_unknown_name top names OtherName key row = text_fails (is_named names) key row

@@ -11,27 +11,30 @@ use Rattle.lib_read.specs.declared.fault.TableName.TheVariants.{Library, Types, 
 unfoldable pub tree_of : List ℕ → Option Data
 tree_of bytes = if is_utf8 bytes then option_map table (parse_document bytes) else None
 
--- the text at a key of a row, and the integer: none where the value is of another kind
+-- the text at a key of a row: none where the value is of another kind
 abbrev pub text_at : List ℕ → Data → Option (List ℕ)
 text_at key row = option_and_then as_str (get key row)
 
+-- the integer at a key of a row: none where the value is of another kind
 abbrev pub integer_at : List ℕ → Data → Option ℤ
 integer_at key row = option_and_then as_integer (get key row)
 
--- the keys of a row, in byte order: none where it isn't a table
+-- the keys of members, in byte order
 abbrev pub keys_of : Members → List (List ℕ)
 keys_of no_members = []
 keys_of (member k d ms) = k ∷ keys_of ms
 
+-- the keys of a row, in byte order: none where it isn't a table
 abbrev pub keys_in : Data → List (List ℕ)
 keys_in (table ms) = keys_of ms
 keys_in _ = []
 
--- the elements of an array: none where it isn't one
+-- the items of an array as a list
 abbrev pub items_list : Items → List Data
 items_list no_items = []
 items_list (item d ds) = d ∷ items_list ds
 
+-- the elements of an array: none where it isn't one
 abbrev pub elements : Data → List Data
 elements (array ds) = items_list ds
 elements _ = []

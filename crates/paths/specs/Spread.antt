@@ -19,6 +19,7 @@ abbrev pub from_of : Way → Edge → ℕ
 from_of Down e = e.tail.0
 from_of Up e = e.head.0
 
+-- the end to which an edge is walked
 abbrev pub to_of : Way → Edge → ℕ
 to_of Down e = e.head.0
 to_of Up e = e.tail.0

@@ -31,7 +31,7 @@ fn row(name: &str, role: Role, max: u32, cost: u64, supply: u64, demand: u64) ->
 
 // A source a of supply 3 and cost 2, two of b of cost 1, and a sink c of demand 5. Components 0 to
 // 3 are a.1, b.1, b.2 and c.1. Edges 0 to 4, of cost 1 each, are a.1-b.1, a.1-b.2, b.1-c.1,
-// b.2-c.1 and a.1-c.1.
+// b.2-c.1 and a.1-c.1, the last so that a pattern of kind exclusive can be broken.
 fn library(rt: &(impl Abort + AllocGlobal), patterns: Vec<Pattern>) -> Result<Library, Fail>
     requires rows { All (IsPatternRow 3 4) patterns.items }
     requires few { length patterns.items ≤ 200 }

@@ -6,7 +6,7 @@ use Rattle.std.proofs.lemmas.Bool.Decides.{eqb_tells}
 use Rattle.arch_model.proofs.Members.{and_left, and_right, and_both, bool_cases}
 use Rattle.rows.specs.declared.row.Term.{Term}
 use Rattle.rows.specs.Parts.{RowParts, CubeParts}
-use Rattle.rows.specs.Row.{coef_at, IsRow}
+use Rattle.rows.specs.Row.{coef_at}
 use Rattle.rows.specs.Cube.{IsCube, is_free, fixed_at}
 use Rattle.rows.specs.Activity.{is_refuted, Forces, forces, least_forced, IsLeastForced, room_of}
 use Rattle.rows.proofs.WhatIsForced.{After, Rising, rising_from, coef_after, coef_tail, forces_one, forces_zero, forces_any, idle_at_zero, refuted_none, room_is_some}
@@ -109,9 +109,9 @@ one_way_by free room a up h =
       and_false true = refl
       and_false false = refl
 
-module _ (row : RowParts) (cube : CubeParts) (ok : IsRow row) (k : IsCube cube) where
+module _ (row : RowParts) (cube : CubeParts) (ascending : IsStrictlyIncreasing (map (λ (t : Term). t.var.0) row.terms)) (k : IsCube cube) where
   has_coef : (w : ℕ) → is_refuted row cube ≡ false → forces_any row cube w ≡ true → coef_at row.terms w ≡ pos 0 → ⊥
-  has_coef w stands any none = let e : false ≡ true = sym (idle_at_zero row cube w (rising_from row.terms ok.ascending) k stands none) ∙ any in cc
+  has_coef w stands any none = let e : false ≡ true = sym (idle_at_zero row cube w (rising_from row.terms ascending) k stands none) ∙ any in cc
 
   stands_if : (o : Option (ℕ × Bool)) (p : ℕ × Bool) → least_forced row cube ≡ o → o ≡ Some p → is_refuted row cube ≡ false
   stands_if o p e s = elim (bool_cases (is_refuted row cube)) [
@@ -137,14 +137,14 @@ module _ (row : RowParts) (cube : CubeParts) (ok : IsRow row) (k : IsCube cube) 
         forced = forces_from_test row cube v b (value_from row cube v b any at.1);
         least = λ w c forced.
             let w_any = any_from row cube w c (test_from_forces row cube w c forced) in
-            found_is_least (forces_any row cube) row.terms v w (rising_from row.terms ok.ascending) at.0 w_any (has_coef w stands w_any);
+            found_is_least (forces_any row cube) row.terms v w (rising_from row.terms ascending) at.0 w_any (has_coef w stands w_any);
       }
 
   value_is : (v : ℕ) (b : Bool) → is_refuted row cube ≡ false → forces row cube v b ≡ true → forces row cube v true ≡ b
   value_is v true stands h = h
   value_is v false stands h =
-      forces_one row cube v (rising_from row.terms ok.ascending) k stands
-      ∙ one_way_by (is_free cube v) (room_of row cube) (coef_at row.terms v) (room_is_some row cube stands) (sym (forces_zero row cube v (rising_from row.terms ok.ascending) k stands) ∙ h)
+      forces_one row cube v (rising_from row.terms ascending) k stands
+      ∙ one_way_by (is_free cube v) (room_of row cube) (coef_at row.terms v) (room_is_some row cube stands) (sym (forces_zero row cube v (rising_from row.terms ascending) k stands) ∙ h)
 
   pub least_forced_from : (v : ℕ) (b : Bool) → IsLeastForced row cube v b → least_forced row cube ≡ Some (v, b)
   least_forced_from v b least =
@@ -155,7 +155,7 @@ module _ (row : RowParts) (cube : CubeParts) (ok : IsRow row) (k : IsCube cube) 
         from_found : (o : Option ℕ) → found (forces_any row cube) row.terms ≡ o → is_refuted row cube ≡ false → forces row cube v b ≡ true → forces_any row cube v ≡ true → least_forced row cube ≡ Some (v, b)
         from_found None e stands here any = absurd (has_coef v stands any (none_found (forces_any row cube) row.terms v e any))
         from_found (Some u) e stands here any =
-            let low : u ≤ v = found_is_least (forces_any row cube) row.terms u v (rising_from row.terms ok.ascending) e any (has_coef v stands any) in
+            let low : u ≤ v = found_is_least (forces_any row cube) row.terms u v (rising_from row.terms ascending) e any (has_coef v stands any) in
             let u_any = found_passes (forces_any row cube) row.terms u e in
             let high : v ≤ u = least.least u (forces row cube u true) (forces_from_test row cube u (forces row cube u true) (value_from row cube u (forces row cube u true) u_any refl)) in
             let same : u ≡ v = omega arith in
@@ -163,3 +163,21 @@ module _ (row : RowParts) (cube : CubeParts) (ok : IsRow row) (k : IsCube cube) 
 
   pub least_forced_is : (v : ℕ) (b : Bool) → (least_forced row cube ≡ Some (v, b)) ↔ IsLeastForced row cube v b
   least_forced_is v b = (least_forced_to v b, least_forced_from v b)
+
+  -- and there is none exactly where the row forces nothing
+  nothing_to : least_forced row cube ≡ None → (v : ℕ) (b : Bool) → Forces row cube v b → ⊥
+  nothing_to none v b forced =
+      let any = any_from row cube v b (test_from_forces row cube v b forced) in
+      has_coef v forced.open_yet any (none_found (forces_any row cube) row.terms v (unmapped (found (forces_any row cube) row.terms) none) any) where
+        unmapped : (o : Option ℕ) → option_map {U = ℕ × Bool} (λ w. (w, forces row cube w true)) o ≡ None → o ≡ None
+        unmapped None e = refl
+        unmapped (Some w) e = let f : Some (w, forces row cube w true) ≡ None = e in cc
+
+  nothing_from : ((v : ℕ) (b : Bool) → Forces row cube v b → ⊥) → least_forced row cube ≡ None
+  nothing_from nothing = none_of (least_forced row cube) refl where
+    none_of : (o : Option (ℕ × Bool)) → least_forced row cube ≡ o → least_forced row cube ≡ None
+    none_of None e = e
+    none_of (Some p) e = absurd (nothing p.0 p.1 (least_forced_to p.0 p.1 e).forced)
+
+  pub nothing_is_forced : (least_forced row cube ≡ None) ↔ ((v : ℕ) (b : Bool) → Forces row cube v b → ⊥)
+  nothing_is_forced = (nothing_to, nothing_from)

@@ -1,22 +1,23 @@
 -- Worked rows: what the definitions compute on small libraries.
 use Rattle.std.proofs.Common.{◌≡◌, ℕ, ℤ, pos, negsuc, true, false, List, [], ◌∷◌, map, take, drop, replicate, Option, Some, None, refl}
-use Rattle.std.specs.List.{range_with_len}
+use Rattle.std.specs.List.{range_with_len, list_all}
 use Rattle.arch_model.specs.declared.library.TypeRow.{TypeRow}
 use Rattle.arch_model.specs.declared.library.LinkRow.{LinkRow}
 use Rattle.arch_model.specs.declared.library.Pattern.{Pattern}
 use Rattle.arch_model.specs.declared.library.Pattern.TheVariants.{Count, InDegree, OutDegree, InNeedsOut, Exclusive, Implies, Forbid, TotalSupply, LocalSupply, CostCap}
 use Rattle.arch_model.specs.declared.template.Role.TheVariants.{Source, Middle, Sink}
 use Rattle.arch_model.specs.Parts.{LibraryParts}
-use Rattle.arch_model.specs.Set.{has, empty, put}
+use Rattle.arch_model.specs.Set.{has, empty, put, union, members_below}
 use Rattle.arch_model.specs.Library.{library_parts}
 use Rattle.arch_model.specs.Template.{template_of}
 use Rattle.rows.specs.declared.row.Term.{Term}
 use Rattle.rows.specs.declared.known.Pair.{Pair}
-use Rattle.rows.specs.declared.known.RowRef.TheVariants.{Base, Cost}
+use Rattle.rows.specs.declared.known.RowRef.TheVariants.{Base, Cut, Cost}
 use Rattle.rows.specs.Parts.{RowParts, KnownParts}
 use Rattle.rows.specs.Row.{term}
-use Rattle.rows.specs.Cube.{whole, fixed_at}
-use Rattle.rows.specs.Activity.{is_refuted, least_forced}
+use Rattle.rows.specs.Cube.{whole, fixed_at, is_free}
+use Rattle.rows.specs.Activity.{is_refuted, least_forced, is_quiet_at}
+use Rattle.rows.specs.Known.{known_rows}
 use Rattle.rows.specs.BaseRows.{base_rows_of, cost_row_of}
 use Rattle.rows.specs.Trace.{cube_after}
 use Rattle.rows.specs.Reason.{combination_of}
@@ -132,7 +133,7 @@ q-implies_itself : rows_q (Implies 1 1) ≡ row (term 2 (pos 1) ∷ []) (pos 0) 
 unfolding base_rows_of
 q-implies_itself = refl
 
--- two middles a and b that feed a type c of two, which is linked to itself
+-- a type of two sources that feeds a type of two middles, which is linked to itself
 abbrev types_s : List TypeRow
 types_s =
     record { name = 1 ∷ []; role = Source; max = 2; cost = 0; supply = 4; demand = 1; fail = 0 }
@@ -184,6 +185,14 @@ x-whole : cube_after (known_of lib_x None) whole (Base 0 ∷ []) ≡ Some (fixed
 unfolding base_rows_of has empty put
 x-whole = refl
 
+x-full : is_free (fixed_at whole 0 true) 0 ≡ false
+unfolding has empty put
+x-full = refl
+
+x-quiet : list_all (is_quiet_at (fixed_at whole 0 true)) (known_rows (known_of lib_x None)) ≡ true
+unfolding base_rows_of has empty put
+x-quiet = refl
+
 -- P: two sources of cost 3, of which a least number is asked for
 abbrev types_p : List TypeRow
 types_p = record { name = 1 ∷ []; role = Source; max = 2; cost = 3; supply = 0; demand = 0; fail = 0 } ∷ []
@@ -207,10 +216,23 @@ p-whole-refuted : is_refuted p_row whole ≡ false
 unfolding has empty put
 p-whole-refuted = refl
 
--- with variable 0 at 0 it forces variable 1 to 1
+-- so the whole cube is quiet where there is no bound
+p-whole-quiet : list_all (is_quiet_at whole) (known_rows (known_of (lib_p 1) None)) ≡ true
+unfolding base_rows_of has empty put
+p-whole-quiet = refl
+
+-- with variable 0 at 0 it forces variable 1 to 1, and what is reached is quiet
 p-zero : cube_after (known_of (lib_p 1) None) (fixed_at whole 0 false) (Base 0 ∷ []) ≡ Some (fixed_at (fixed_at whole 0 false) 1 true)
 unfolding base_rows_of has empty put
 p-zero = refl
+
+p-zero-loud : list_all (is_quiet_at (fixed_at whole 0 false)) (known_rows (known_of (lib_p 1) None)) ≡ false
+unfolding base_rows_of has empty put
+p-zero-loud = refl
+
+p-zero-quiet : list_all (is_quiet_at (fixed_at (fixed_at whole 0 false) 1 true)) (known_rows (known_of (lib_p 1) None)) ≡ true
+unfolding base_rows_of has empty put
+p-zero-quiet = refl
 
 -- the bound 3 asks for a cost of at most 2: the cost row forces both variables to 0, and then P's row is refuted
 p-cost : cost_row_of (lib_p 1) 3 ≡ row (term 0 (negsuc 2) ∷ term 1 (negsuc 2) ∷ []) (negsuc 1)
@@ -228,6 +250,10 @@ p-bound-refuted = refl
 p-both : cube_after (known_of (lib_p 2) None) whole (Base 0 ∷ Base 0 ∷ []) ≡ Some (fixed_at (fixed_at whole 0 true) 1 true)
 unfolding base_rows_of has empty put
 p-both = refl
+
+p-both-quiet : list_all (is_quiet_at (fixed_at (fixed_at whole 0 true) 1 true)) (known_rows (known_of (lib_p 2) None)) ≡ true
+unfolding base_rows_of has empty put
+p-both-quiet = refl
 
 -- a step whose row forces nothing, or isn't there, is not legal
 p-idle : cube_after (known_of (lib_p 1) None) whole (Base 0 ∷ []) ≡ None
@@ -278,3 +304,61 @@ twelve-refuted-121 = refl
 -- without a bound there is no ascent
 twelve-none : is_ascent_refuted (known_of lib_twelve None) whole ≡ false
 twelve-none = refl
+
+-- P with its pattern twice: what the first row takes of the residues isn't there for the second
+abbrev lib_pp : LibraryParts
+lib_pp = library_parts types_p [] (template_of types_p []) (Count 0 1 None ∷ (Count 0 1 None ∷ [])) []
+
+abbrev cost_once : Pair
+cost_once = record { row = Cost; times = 1 }
+
+pp-ascent : ascent_of (known_of lib_pp (Some 3)) whole ≡ Some (cost_once ∷ record { row = Base 0; times = 3 } ∷ [])
+unfolding base_rows_of has empty
+pp-ascent = refl
+
+-- a row whose least is reached by the variables at 1 is passed over
+pp-ascent-one : ascent_of (known_of lib_pp (Some 3)) (fixed_at whole 0 true) ≡ Some (cost_once ∷ [])
+unfolding base_rows_of has empty put
+pp-ascent-one = refl
+
+-- where no helper is free, a row is taken as often as may be
+pp-ascent-none : ascent_of (known_of lib_pp (Some 3)) (fixed_at (fixed_at whole 0 false) 1 false)
+    ≡ Some (cost_once ∷ record { row = Base 0; times = 1000000000000 } ∷ record { row = Base 1; times = 1000000000000 } ∷ [])
+unfolding base_rows_of has empty put
+pp-ascent-none = refl
+
+-- a source of cost 3 and supply 2, and two sinks of demand 1, both asked for: quotients are rounded down, and a negative
+-- coefficient adds to a residue
+abbrev types_d : List TypeRow
+types_d =
+    record { name = 1 ∷ []; role = Source; max = 1; cost = 3; supply = 2; demand = 0; fail = 0 }
+    ∷ (record { name = 2 ∷ []; role = Sink; max = 2; cost = 0; supply = 0; demand = 1; fail = 0 } ∷ [])
+
+abbrev lib_d : LibraryParts
+lib_d = library_parts types_d [] (template_of types_d []) (TotalSupply ∷ (Count 1 2 None ∷ [])) []
+
+d-ascent : ascent_of (known_of lib_d (Some 3)) (fixed_at whole 1 true)
+    ≡ Some (cost_once ∷ record { row = Base 0; times = 1 } ∷ record { row = Base 1; times = 1 } ∷ [])
+unfolding base_rows_of has empty put
+d-ascent = refl
+
+-- 64 types of one instance of cost 1, each asked for: the 64th pair is the last
+abbrev type_many : TypeRow
+type_many = record { name = 1 ∷ []; role = Source; max = 1; cost = 1; supply = 0; demand = 0; fail = 0 }
+
+abbrev lib_many : LibraryParts
+lib_many =
+    library_parts (replicate 64 type_many) [] (template_of (replicate 64 type_many) []) (map (λ t. Count t 1 None) (range_with_len 0 64)) []
+
+many-ascent : ascent_of (known_of lib_many (Some 9)) whole ≡ Some (cost_once ∷ map (λ i. record { row = Base i; times = 1 }) (range_with_len 0 63))
+unfolding base_rows_of has empty
+many-ascent = refl
+
+-- a cut is looked at after the base rows
+abbrev cut_known : KnownParts
+cut_known =
+    record { problem = record { library = lib_p 1; base = [] }; cuts = record { plus = record { mask = 3 }; minus = empty; least = pos 1 } ∷ []; upto = 1; bound = Some 3 }
+
+cut-ascent : ascent_of cut_known whole ≡ Some (cost_once ∷ record { row = Cut 0; times = 3 } ∷ [])
+unfolding has empty union members_below
+cut-ascent = refl

@@ -12,10 +12,11 @@ use Rattle.rows.specs.declared.row.Term.{Term}
 use Rattle.rows.specs.Parts.{RowParts}
 use Rattle.rows.specs.Row.{term, row_of}
 
--- a term with coefficient 1, and one with coefficient -1
+-- a term with coefficient 1
 abbrev pub plus : ℕ → Term
 plus v = term v (pos 1)
 
+-- a term with coefficient -1
 abbrev pub minus : ℕ → Term
 minus v = term v (negsuc 0)
 
@@ -23,33 +24,35 @@ minus v = term v (negsuc 0)
 abbrev pub member_row : LibraryParts → List Term → ℤ → RowParts
 member_row lib terms least = row_of (member_count lib) terms least
 
--- the variables of the edges that pass a test, and these edges with them
+-- the edges that pass a test, with their variables
 abbrev pub chosen_edges : LibraryParts → (Edge → Bool) → List (ℕ × Edge)
 chosen_edges lib test = filter (λ p. test p.1) (enumerate_from (length lib.components) lib.edges)
 
+-- the variables of the edges that pass a test
 abbrev pub edge_variables : LibraryParts → (Edge → Bool) → List ℕ
 edge_variables lib test = map (λ p. p.0) (chosen_edges lib test)
 
--- the variables of the edges into i from instances of type t, and of those from i to instances of type t
+-- the variables of the edges into i from instances of type t
 abbrev pub in_variables : LibraryParts → ℕ → ℕ → List ℕ
 in_variables lib t i = edge_variables lib (λ e. nat_eq e.head.0 i && is_instance lib t e.tail.0)
 
+-- the variables of the edges from i to instances of type t
 abbrev pub out_variables : LibraryParts → ℕ → ℕ → List ℕ
 out_variables lib t i = edge_variables lib (λ e. nat_eq e.tail.0 i && is_instance lib t e.head.0)
 
--- what each member costs, in member order
+-- what each member costs, in member order and in cost units
 abbrev pub costs_of : LibraryParts → List ℕ
 costs_of lib = map (λ c. c.cost) lib.components ++ map (λ e. e.cost) lib.edges
 
--- what member v costs
+-- what member v costs, in cost units
 abbrev pub member_cost_of : LibraryParts → ℕ → ℕ
 member_cost_of lib v = slice_index (costs_of lib) v
 
--- minus the cost of all present members
+-- minus the cost of all present members, in cost units
 abbrev pub cost_terms : LibraryParts → List Term
 cost_terms lib = map (λ p. term p.0 (neg_ℤ (pos p.1))) (enumerate_from 0 (costs_of lib))
 
--- the cost row for a bound: the cost is at most the bound less 1
+-- the cost row for a bound in cost units: the cost is at most the bound less 1
 abbrev pub cost_row_of : LibraryParts → ℕ → RowParts
 cost_row_of lib u = member_row lib (cost_terms lib) (pos 1 -ℤ pos u)
 

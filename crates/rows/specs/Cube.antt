@@ -21,7 +21,7 @@ pub record IsCube (cube : CubeParts) : Type 0 where
 abbrev pub whole : CubeParts
 whole = record { fixed = empty; ones = empty }
 
--- the cube with v fixed as well
+-- the cube with a free variable v fixed as well
 abbrev pub fixed_at : CubeParts → ℕ → Bool → CubeParts
 fixed_at cube v b = record { fixed = put cube.fixed v; ones = if b then put cube.ones v else cube.ones }
 

@@ -52,5 +52,6 @@ pub record IsKnown (known : KnownParts) : Type 0 where
 abbrev pub known_parts : ProblemParts → CutListParts → ℕ → Option ℕ → KnownParts
 known_parts problem cuts upto bound = record { problem = problem; cuts = cuts.cuts; upto = upto; bound = bound }
 
+-- the same of the record that is passed as known
 abbrev pub parts_of : Known → KnownParts
 parts_of known = known_parts known.problem.now known.cuts.now known.upto known.bound

@@ -29,5 +29,6 @@ pub record DecidePatterns (lib : LibraryParts) (rows : List RowParts) : Type 0 w
 abbrev pub IsProblem : ProblemParts → Type 0
 IsProblem problem = DecidePatterns problem.library problem.base
 
+-- the problem of a library and rows
 abbrev pub problem_parts : LibraryParts → List RowParts → ProblemParts
 problem_parts library base = record { library = library; base = base }

@@ -31,7 +31,7 @@ row_of_pair known p = unwrap_or (row_at known p.row) empty_row
 abbrev pub terms_times : ℕ → RowParts → List Term
 terms_times k row = map (λ t. term t.var.0 (pos k *ℤ t.coef)) row.terms
 
--- the combination of a reason: the sum of its rows with their multipliers
+-- the combination of a reason: the sum of its rows with their multipliers, over the program's variables
 abbrev pub combination_of : KnownParts → List Pair → RowParts
 combination_of known pairs =
     row_of (variables known) (flat_map (λ p. terms_times p.times (row_of_pair known p)) pairs)

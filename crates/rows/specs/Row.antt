@@ -42,6 +42,7 @@ collected n terms = filter (λ t. is_nonzero t.coef) (map (λ v. term v (coef_at
 abbrev pub row_of : ℕ → List Term → ℤ → RowParts
 row_of n terms least = record { terms = collected n terms; least = least }
 
+-- the row of some terms and a least, as they stand
 abbrev pub row_parts : List Term → ℤ → RowParts
 row_parts terms least = record { terms = terms; least = least }
 

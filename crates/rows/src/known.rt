@@ -96,8 +96,8 @@ impl Reason {
 }
 
 /// What a node of the search knows: the problem's base rows, the cuts numbered below `upto`, and, where there is a
-/// bound, that the cost is below it, in cost units. There are at least `upto` cuts, and their variables are the
-/// problem's (`IsKnown`).
+/// bound, that the cost is below it, in cost units. There have to be at least `upto` cuts over the problem's variables
+/// (`IsKnown`) for a combination to be the sum of its rows.
 #[derive(Clone, Copy)]
 pub struct Known<'a> {
     /// The problem.

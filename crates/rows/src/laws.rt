@@ -1,12 +1,13 @@
 //! Laws of rows, cubes and forcing, each the contract of a function without a body.
-ghost use Rattle.std.specs.Prelude.{◌≡◌, ◌↔◌, ℕ, ◌<◌, Bool, false, Some};
+ghost use Rattle.std.specs.Prelude.{◌≡◌, ◌↔◌, ℕ, ◌<◌, Bool, false, Some, None, map};
 ghost use Rattle.std.specs.List.{All};
+ghost use Rattle.std.specs.List.Sorted.{IsStrictlyIncreasing};
 ghost use Rattle.arch_model.specs.Set.{has};
 ghost use Rattle.arch_model.specs.Parts.{LibraryParts, ArchitectureParts};
 ghost use Rattle.arch_model.specs.Library.{IsLibrary};
 ghost use Rattle.arch_model.specs.Architecture.{IsArchitecture, cost_of};
 ghost use Rattle.rows.specs.Parts.{RowParts, CubeParts};
-ghost use Rattle.rows.specs.Row.{RowHolds, IsRow, IsRowBelow};
+ghost use Rattle.rows.specs.Row.{RowHolds, IsRowBelow};
 ghost use Rattle.rows.specs.Cube.{IsCube, LiesIn, IsFull};
 ghost use Rattle.rows.specs.Activity.{IsRefuted, is_refuted, Forces, least_forced, IsLeastForced};
 ghost use Rattle.rows.specs.BaseRows.{edge_rows, cost_row_of};
@@ -24,10 +25,13 @@ pub fn forced_values_are_kept()
         → Forces row cube v b → LiesIn x cube → RowHolds row x → x v ≡ b }
 {}
 
-/// The least forced variable is the least of all that the row forces, with the value to which it is forced.
+/// The least forced variable is the least of all that the row forces, with the value to which it is forced, and there is
+/// none exactly where the row forces nothing.
 pub fn the_least_is_forced()
-    ensures { (row : RowParts) (cube : CubeParts) → IsRow row → IsCube cube → (v : ℕ) (b : Bool)
-        → (least_forced row cube ≡ Some (v, b)) ↔ IsLeastForced row cube v b }
+    ensures least { (row : RowParts) (cube : CubeParts) → IsStrictlyIncreasing (map (λ t. t.var.0) row.terms)
+        → IsCube cube → (v : ℕ) (b : Bool) → (least_forced row cube ≡ Some (v, b)) ↔ IsLeastForced row cube v b }
+    ensures none { (row : RowParts) (cube : CubeParts) → IsStrictlyIncreasing (map (λ t. t.var.0) row.terms)
+        → IsCube cube → (least_forced row cube ≡ None) ↔ ((v : ℕ) (b : Bool) → Forces row cube v b → ⊥) }
 {}
 
 /// Where nothing is free, a row is refuted exactly where the one vector of the cube doesn't meet it.
