@@ -132,15 +132,17 @@ pub terms_of_each : (n : ℕ) (a : ℤ) (vars : List VarId) (start made lent : L
 terms_of_each n a vars start made lent are small none step same =
     terms_along n EDGES 2048 lent (each_at a vars) (same ∙ from_none a vars start made none step) (omega arith) (terms_at n EDGES a vars small are)
 
-pub each_then_one : (n v m : ℕ) (t : Term) (vars : List VarId) (start made after lent : List Term) → AreVariables n EDGES vars → v < n → m ≤ 10 ^ 12 → t ≡ term v (neg_ℤ (pos m))
+pub each_then_one : (n v : ℕ) (t : Term) (vars : List VarId) (start made after lent : List Term) → AreVariables n EDGES vars → v < n → t.var.0 ≡ v → unsigned_abs t.coef ≤ 10 ^ 12
     → start ≡ [] → made ≡ start ++ each_at (pos 1) vars → after ≡ made ++ t ∷ [] → lent ≡ after → AreTerms n 2048 lent
-each_then_one n v m t vars start made after lent are below small is none step more same =
+each_then_one n v t vars start made after lent are below var small none step more same =
+    let inside : t.var.0 < n = omega arith in
     terms_along n (EDGES + 1) 2048 lent after same (omega arith)
-    (cost_push n EDGES v m made after t (terms_along n EDGES EDGES made (each_at (pos 1) vars) (from_none (pos 1) vars start made none step) (omega arith) (terms_at n EDGES (pos 1) vars (omega arith) are)) is small below more)
+    (terms_push n EDGES made after t (terms_along n EDGES EDGES made (each_at (pos 1) vars) (from_none (pos 1) vars start made none step) (omega arith) (terms_at n EDGES (pos 1) vars (omega arith) are)) small inside more)
 
-pub one_then_each : (n v m : ℕ) (t : Term) (vars : List VarId) (start first after lent : List Term) → AreVariables n EDGES vars → v < n → m ≤ 10 ^ 12 → t ≡ term v (neg_ℤ (pos m))
+pub one_then_each : (n v : ℕ) (t : Term) (vars : List VarId) (start first after lent : List Term) → AreVariables n EDGES vars → v < n → t.var.0 ≡ v → unsigned_abs t.coef ≤ 10 ^ 12
     → start ≡ [] → first ≡ start ++ t ∷ [] → after ≡ first ++ each_at (negsuc 0) vars → lent ≡ after → AreTerms n 2048 lent
-one_then_each n v m t vars start first after lent are below small is none one step same =
-    terms_along n (suc EDGES) 2048 lent (term v (neg_ℤ (pos m)) ∷ each_at (negsuc 0) vars)
-    (same ∙ step ∙ ap (λ l. l ++ each_at (negsuc 0) vars) (one ∙ ap (λ l. l ++ t ∷ []) none ∙ ap (λ u. u ∷ []) is)) (omega arith)
-    (terms_more n EDGES (term v (neg_ℤ (pos m))) (each_at (negsuc 0) vars) (minus_small m (10 ^ 12) small) below (terms_at n EDGES (negsuc 0) vars (omega arith) are))
+one_then_each n v t vars start first after lent are below var small none one step same =
+    let inside : t.var.0 < n = omega arith in
+    terms_along n (suc EDGES) 2048 lent (t ∷ each_at (negsuc 0) vars)
+    (same ∙ step ∙ ap (λ l. l ++ each_at (negsuc 0) vars) (one ∙ ap (λ l. l ++ t ∷ []) none)) (omega arith)
+    (terms_more n EDGES t (each_at (negsuc 0) vars) small inside (terms_at n EDGES (negsuc 0) vars (omega arith) are))

@@ -49,7 +49,7 @@ fn nonzero_terms(alloc: Global, coefs: &[i128]) -> Result<Vec<Term>, Memory>
 
 /// The row of some terms over the variables below n: those of one variable added up, zero terms
 /// dropped, ascending. No sum wraps: there are few terms with small coefficients.
-pub fn row_from(alloc: Global, n: u32, terms: &[Term], least: i128) -> Result<Row, Memory>
+pub(crate) fn row_from(alloc: Global, n: u32, terms: &[Term], least: i128) -> Result<Row, Memory>
     requires few { length terms.now ≤ 2048 }
     requires small { All (λ t. unsigned_abs t.coef ≤ 10 ^ 12) terms.now }
     requires variables { All (λ t. t.var.0 < n) terms.now }

@@ -21,7 +21,6 @@ pub mod laws;
 mod sum_rows;
 mod terms;
 
-pub use adding::row_from;
 pub use building::problem_of;
 pub use cubes::{architecture_of, cube_of};
 

@@ -1,6 +1,6 @@
 // Which variables a row is over, and its terms before they are added up.
 ghost use Rattle.std.specs.Prelude.{◌≡◌, ℕ, ◌+◌, ◌≤◌, ◌<◌, ◌^◌, ◌++◌, IfOk, OnOk, length, map};
-ghost use Rattle.std.specs.Prelude.{pos, neg_ℤ, ◌-ℤ◌, nat_eq};
+ghost use Rattle.std.specs.Prelude.{pos, neg_ℤ, ◌-ℤ◌, unsigned_abs, nat_eq};
 ghost use Rattle.std.specs.List.{enumerate_from};
 ghost use Rattle.arch_model.specs.Member.{member_count};
 ghost use Rattle.arch_model.specs.Pattern as pattern;
@@ -42,7 +42,8 @@ pub(crate) fn minus(var: VarId) -> Term
 /// A term whose coefficient is minus a number.
 pub(crate) fn minus_times(var: VarId, n: u64) -> Term
     requires { n ≤ 10 ^ 12 }
-    ensures { result ≡ term var.0 (neg_ℤ (pos n)) }
+    ensures value { result ≡ term var.0 (neg_ℤ (pos n)) }
+    ensures small { unsigned_abs result.coef ≤ 10 ^ 12 }
 {
     Term {
         var,

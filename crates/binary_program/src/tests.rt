@@ -1,7 +1,8 @@
 // Base rows of small libraries, worked out by hand, and cubes of architectures.
 ghost use Rattle.arch_model.specs.Name.{IsTypeName};
 
-use crate::{architecture_of, cube_of, problem_of, row_from};
+use crate::adding::row_from;
+use crate::{architecture_of, cube_of, problem_of};
 use arch_model::{
     Architecture, CompId, CompSet, Component, Edge, EdgeId, EdgeSet, Library, LinkRow, Memory,
     Name, Pattern, Requirement, Role, Template, TypeRow, VarId, fits, is_library,
@@ -400,6 +401,7 @@ fn the_largest_coefficients_fit(rt: HostRuntime) -> Result<(), Fail> {
     ];
     let patterns = [
         Pattern::TotalSupply,
+        Pattern::LocalSupply { of: 1 },
         Pattern::CostCap {
             max: 1_000_000_000_000_000,
         },
@@ -409,7 +411,7 @@ fn the_largest_coefficients_fit(rt: HostRuntime) -> Result<(), Fail> {
     assert_eq!(rt; lib.edges().len(), 512);
     let problem = problem_of(rt.alloc(), lib)?;
     let rows = problem.base();
-    assert_eq!(rt; rows.len(), 1026);
+    assert_eq!(rt; rows.len(), 1058);
     assert_eq!(rt; rows[1024].terms().len(), 64);
     assert!(rt;
         rows[1024]
@@ -417,14 +419,21 @@ fn the_largest_coefficients_fit(rt: HostRuntime) -> Result<(), Fail> {
             .iter()
             .all(|t| t.coef == 1_000_000_000_000)
     );
-    assert_eq!(rt; rows[1025].terms().len(), 576);
+    assert_eq!(rt; rows[1025].terms().len(), 16);
     assert!(rt;
         rows[1025]
             .terms()
             .iter()
+            .all(|t| t.coef == 1_000_000_000_000)
+    );
+    assert_eq!(rt; rows[1057].terms().len(), 576);
+    assert!(rt;
+        rows[1057]
+            .terms()
+            .iter()
             .all(|t| t.coef == -1_000_000_000_000)
     );
-    assert_eq!(rt; rows[1025].least(), -1_000_000_000_000_000);
+    assert_eq!(rt; rows[1057].least(), -1_000_000_000_000_000);
     Ok(())
 }
 

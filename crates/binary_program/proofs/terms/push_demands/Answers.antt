@@ -11,7 +11,7 @@ loop-e-preserved c = elim c.if-eq.branch [
   | then-eq+in_ok-push w ↦
       items_yes (out_of c.args.i.0) (asked c.args.lib.now) (length c.args.lib.now.components) c.edges-edge-items.result.now c.loop-e.e _ blank_edge c.args.terms.now.items c.loop-e.terms.items c.if-eq.terms.items c.loop-e-test.true refl c.loop-e.invariant
       (ap (λ v. v.items) w.terms-is ∙ w.in_ok-push.ensures.items
-      ∙ ap (λ t. c.loop-e.terms.items ++ t ∷ []) (minus_times_is w.minus_times.result w.edge_variable.result.0 _ w.demand.result _ w.minus_times.ensures w.edge_variable.ensures w.demand.ensures.value))
+      ∙ ap (λ t. c.loop-e.terms.items ++ t ∷ []) (minus_times_is w.minus_times.result w.edge_variable.result.0 _ w.demand.result _ w.minus_times.ensures.value w.edge_variable.ensures w.demand.ensures.value))
       (sym c.eq.ensures ∙ w.if-eq.true)
   | else-eq w ↦
       items_no (out_of c.args.i.0) (asked c.args.lib.now) (length c.args.lib.now.components) c.edges-edge-items.result.now c.loop-e.e _ blank_edge c.args.terms.now.items c.loop-e.terms.items c.if-eq.terms.items c.loop-e-test.true refl c.loop-e.invariant
