@@ -14,8 +14,9 @@ use rows::{
     have_bounds, names_differ,
 };
 
-/// Whether rows make a library: each in its range, names and links not repeated, within the limits, and the template
-/// that of the types and links. It is the exact test of what `Library::new` requires.
+/// Whether rows make a library: each in its range, names and links not repeated, within the limits,
+/// and the template that of the types and links. It is the exact test of what `Library::new`
+/// requires.
 pub fn is_library(
     types: &[TypeRow],
     links: &[LinkRow],

@@ -1,8 +1,8 @@
 //! The program `archex`: hands its words to the top call, over real files and the standard output.
 //!
-//! Which status comes when is said by `archex_app::run_plain`. Two endings are of its own, without a text: 7 where
-//! there is no memory for the words or the shelf, and 10 where the runtime can't give the words for another cause, as
-//! where one isn't UTF-8.
+//! Which status comes when is said by `archex_app::run_plain`. Two endings are of its own, without
+//! a text: 7 where there is no memory for the words or the shelf, and 10 where the runtime can't
+//! give the words for another cause, as where one isn't UTF-8.
 #![tactic(auto)]
 
 use archex_app::{Status, run_plain};

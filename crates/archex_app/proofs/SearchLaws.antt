@@ -14,7 +14,7 @@ use Rattle.arch_model.proofs.Members.{or_left, or_right, or_cases, bool_cases, s
 use Rattle.arch_model.proofs.SetLaws.{has-empty, has-put}
 use Rattle.rows.specs.Parts.{RowParts, CubeParts, ProblemParts}
 use Rattle.rows.specs.Row.{RowHolds, IsRowBelow}
-use Rattle.rows.specs.Cube.{IsCube, LiesIn, IsFull, fixed_at, whole}
+use Rattle.rows.specs.Cube.{FixesBelow, IsCube, LiesIn, IsFull, fixed_at, whole}
 use Rattle.rows.specs.Activity.{is_refuted}
 use Rattle.rows.specs.BaseRows.{cost_row_of, cost_terms}
 use Rattle.rows.specs.Problem.{IsVectorOf, IsCandidate, IsProblem}
@@ -24,7 +24,7 @@ use Rattle.binary_program.specs.CubeOf.{IsCubeOf}
 use Rattle.binary_program.proofs.RowCounts.{is_row_below}
 use Rattle.binary_program.proofs.CubeLaws.{same_architecture}
 use Rattle.archex_app.specs.declared.search.Found.{Found}
-use Rattle.archex_app.specs.Search.{FixesBelow, IsKnownWithin}
+use Rattle.archex_app.specs.Search.{IsKnownWithin}
 
 -- the vector of an architecture's own members
 own_vector : (lib : LibraryParts) (arch : ArchitectureParts) → IsVectorOf lib arch (is_present lib arch)

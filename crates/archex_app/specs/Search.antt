@@ -1,16 +1,10 @@
 -- What the search keeps, cube by cube.
-use Rattle.std.specs.Prelude.{◌≡◌, ℕ, ◌≤◌, nat_lt, Option}
+use Rattle.std.specs.Prelude.{◌≡◌, ℕ, ◌≤◌, Option}
 use Rattle.std.specs.Option.{IsSomeAnd}
-use Rattle.arch_model.specs.Set.{has}
 use Rattle.arch_model.specs.Parts.{LibraryParts}
 use Rattle.arch_model.specs.Architecture.{cost_of}
-use Rattle.rows.specs.Parts.{CubeParts}
 use Rattle.rows.specs.Problem.{IsCandidate}
 use Rattle.archex_app.specs.declared.search.Found.{Found}
-
--- exactly the variables below one are fixed
-abbrev pub FixesBelow : ℕ → CubeParts → Type 0
-FixesBelow next cube = (v : ℕ) → has cube.fixed v ≡ nat_lt v next
 
 -- an architecture that meets every pattern and has every required sink, with its cost
 pub record IsFound (lib : LibraryParts) (found : Found) : Type 0 where

@@ -44,17 +44,20 @@ fn refuse_words<O: Sink>(out: &mut O, fault: WordFault) -> Status
     print(out, &text, Status::REFUSED_WORDS)
 }
 
-/// Does what the words ask, with one worker: `solve LIB` reads the library LIB from the shelf, searches for an
-/// architecture of least cost among all that meet its patterns, and prints a report to the sink.
+/// Does what the words ask, with one worker: `solve LIB` reads the library LIB from the shelf,
+/// searches for an architecture of least cost among all that meet its patterns, and prints a report
+/// to the sink.
 ///
-/// It returns for all arguments, and answers one of seven statuses; want of memory alone is free to come anywhere.
+/// It returns for all arguments, and answers one of seven statuses; want of memory alone is free to
+/// come anywhere.
 pub fn run_plain<F: Shelf, O: Sink>(
     alloc: Global,
     words: &[String],
     shelf: &mut F,
     out: &mut O,
 ) -> Status
-    // What each status says of the bytes of LIB, of all architectures of its template, and of what was printed.
+    // What each status says of the bytes of LIB, of all architectures of its template, and of what
+    // was printed.
     ensures optimal { result ≡ Status.OPTIMAL
         → Prints ShowsCheapest (texts words.now) (F.told shelf.old) (O.told out.old) (O.told out.new) }
     ensures infeasible { result ≡ Status.INFEASIBLE
@@ -71,8 +74,8 @@ pub fn run_plain<F: Shelf, O: Sink>(
     ensures nothing_printed { (result ≡ Status.READ_FAULT) ⊎ (result ≡ Status.NO_MEMORY)
         → O.told out.new ≡ O.told out.old }
 
-    // There is no other status. Refused words are refused, and a library that the shelf tells is solved or refused,
-    // where no call of the outside failed and there was memory.
+    // There is no other status. Refused words are refused, and a library that the shelf tells is
+    // solved or refused, where no call of the outside failed and there was memory.
     ensures statuses { IsStatus result }
     ensures words_first { IsErr (command_of (texts words.now))
         → (result ≡ Status.REFUSED_WORDS) ⊎ (result ≡ Status.WRITE_FAULT) }

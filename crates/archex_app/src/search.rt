@@ -9,9 +9,9 @@ ghost use Rattle.arch_model.specs.Member.{is_present, member_count};
 ghost use Rattle.arch_model.specs.Set.{has};
 ghost use Rattle.rows.specs.Activity.{is_refuted};
 ghost use Rattle.rows.specs.BaseRows.{cost_row_of};
-ghost use Rattle.rows.specs.Cube.{LiesIn};
+ghost use Rattle.rows.specs.Cube.{FixesBelow, LiesIn};
 ghost use Rattle.rows.specs.Problem.{IsCandidate, IsVectorOf};
-ghost use Rattle.archex_app.specs.Search.{FixesBelow, IsFound, IsKnownWithin};
+ghost use Rattle.archex_app.specs.Search.{IsFound, IsKnownWithin};
 
 use arch_model::limits::MEMBERS;
 use arch_model::{Architecture, VarId, cost};
@@ -59,7 +59,8 @@ fn bound_of(best: &Option<Found>) -> Option<u64>
     }
 }
 
-// The architecture of a cube in which nothing is free and no base row is refuted: the only one that lies in it.
+// The architecture of a cube in which nothing is free and no base row is refuted: the only one that
+// lies in it.
 fn found_in(problem: &Problem, cube: &Cube) -> Found
     requires library { IsLibrary problem.now.library }
     requires full { FixesBelow (member_count problem.now.library) cube.now }
@@ -89,8 +90,9 @@ fn with(cube: &Cube, next: u32, value: bool) -> Cube
     cube
 }
 
-// Looks at all architectures that lie in a cube in which the variables before the next are fixed, and keeps the best.
-// A cube is dropped where a base row is refuted, or the cost row for the best so far.
+// Looks at all architectures that lie in a cube in which the variables before the next are fixed,
+// and keeps the best. A cube is dropped where a base row is refuted, or the cost row for the best
+// so far.
 fn search(problem: &Problem, cuts: &CutList, next: u32, cube: &Cube, best: &mut Option<Found>)
     requires open { FixesBelow next cube.now }
     requires in_range { next ≤ member_count problem.now.library }
@@ -122,7 +124,8 @@ fn search(problem: &Problem, cuts: &CutList, next: u32, cube: &Cube, best: &mut 
     search(problem, cuts, next + 1, &with(cube, next, true), best);
 }
 
-/// An architecture of least cost among those that meet every pattern and have every required sink, if there is one.
+/// An architecture of least cost among those that meet every pattern and have every required sink,
+/// if there is one.
 pub fn cheapest(alloc: Global, problem: &Problem) -> Option<Found>
     ensures found { IfSome result (IsFound problem.now.library) }
     ensures least { IfSome result (λ best. (arch : ArchitectureParts) → IsCandidate problem.now.library arch

@@ -9,9 +9,9 @@ use crate::status::Status;
 use outside::{SureShelf, SureSink};
 use std::alloc::Global;
 
-/// `run_plain` over a shelf and a sink whose calls never fail. What always comes needs no premise on counts here:
-/// refused words are answered as such, and a library that the shelf tells is solved or refused, unless there was no
-/// memory.
+/// `run_plain` over a shelf and a sink whose calls never fail. What always comes needs no premise
+/// on counts here: refused words are answered as such, and a library that the shelf tells is solved
+/// or refused, unless there was no memory.
 pub fn run_surely(
     alloc: Global,
     words: &[String],

@@ -35,12 +35,16 @@ fn run_on(
     Ok((status, printed))
 }
 
-// Libraries with the status and the text that are due: no component, one that is required, and two of which three are
-// required.
+// Libraries with the status and the text that are due: no component, one that is required, two of
+// which three are required, and forty of which all are, where a search that looks at whole choices
+// alone would take for ever.
 #[test]
 fn libraries_are_solved(rt: HostRuntime) -> Result<(), Fail> {
     let too_few = b"type = [{name = \"p\", role = \"source\", max = 2, cost = 3}]
 pattern = [{kind = \"count\", type = \"p\", min = 3}]
+";
+    let forty = b"type = [{name = \"p\", role = \"source\", max = 40, cost = 1}]
+pattern = [{kind = \"count\", type = \"p\", min = 40}]
 ";
     let rows: [(&[u8], Status, &[u8]); 3] = [
         (
@@ -57,21 +61,29 @@ pattern = [{kind = \"count\", type = \"p\", min = 3}]
         assert_eq!(rt; printed.as_slice(), text);
     }
     // as many components as there may be, which cost nothing: any of them may be printed
-    let most =
-        b"type = [{name = \"a\", role = \"source\", max = 32}, {name = \"b\", role = \"sink\", max = 32}]";
-    let (ended, printed) = run_on(rt.alloc(), &["solve", "x.toml"], most, &[], &[])?;
-    assert_eq!(rt; ended, Status::OPTIMAL);
-    assert!(rt;
-        printed
-            .as_slice()
-            .starts_with(b"status optimal\ncost 0\nkind,from,to\n")
-    );
+    let most = b"type = [
+  {name = \"a\", role = \"source\", max = 32},
+  {name = \"b\", role = \"sink\", max = 32},
+]";
+    let fronts: [(&[u8], &[u8]); 2] = [
+        (most, b"status optimal\ncost 0\nkind,from,to\n"),
+        (
+            forty,
+            b"status optimal\ncost 40\nkind,from,to\ncomponent,p.1,\n",
+        ),
+    ];
+    for (library, front) in fronts {
+        let (ended, printed) = run_on(rt.alloc(), &["solve", "x.toml"], library, &[], &[])?;
+        assert_eq!(rt; ended, Status::OPTIMAL);
+        assert!(rt; printed.as_slice().starts_with(front));
+    }
     Ok(())
 }
 
-// Where several architectures are cheapest, any of them may be printed: one of two equal sources; a source and a sink
-// with a permitted link, none of them required, of which the sink is free; one instance each of three types, with no
-// edge forced; and a chain over one of two buses, a 2 + bus 1 + two edges of 1, for a sink that must be fed.
+// Where several architectures are cheapest, any of them may be printed: one of two equal sources; a
+// source and a sink with a permitted link, none of them required, of which the sink is free; one
+// instance each of three types, with no edge forced; and a chain over one of two buses, a 2 + bus 1
+// + two edges of 1, for a sink that must be fed.
 #[test]
 fn one_of_the_cheapest_is_printed(rt: HostRuntime) -> Result<(), Fail> {
     let pair = b"type = [{name = \"p\", role = \"source\", max = 2, cost = 3}]
@@ -148,9 +160,9 @@ pattern = [
     Ok(())
 }
 
-// A sink that must be fed over a bus costs 5. A cap of 5 lets that stand and one of 4 doesn't; the supply of 3 never
-// meets the demand of 5, neither in total nor at the bus; a second bus costs 2 more with its edge, and 1 more if it has
-// to feed the sink as well.
+// A sink that must be fed over a bus costs 5. A cap of 5 lets that stand and one of 4 doesn't; the
+// supply of 3 never meets the demand of 5, neither in total nor at the bus; a second bus costs 2
+// more with its edge, and 1 more if it has to feed the sink as well.
 #[test]
 fn further_patterns_narrow_the_answer(rt: HostRuntime) -> Result<(), Fail> {
     let alloc = rt.alloc();
@@ -220,10 +232,10 @@ min = 2";
     Ok(())
 }
 
-// A library is refused for its first fault, with its class, table, position (0 for the file) and key: one library for
-// each class that a document without requirements can have; a table that isn't known yet; a class that is judged over
-// the whole file before the next one; and a key of 60 characters, of which the first 40 are printed, the line feed and
-// the letter outside ASCII as `?`.
+// A library is refused for its first fault, with its class, table, position (0 for the file) and
+// key: one library for each class that a document without requirements can have; a table that isn't
+// known yet; a class that is judged over the whole file before the next one; and a key of 60
+// characters, of which the first 40 are printed, the line feed and the letter outside ASCII as `?`.
 #[test]
 fn the_first_fault_is_printed(rt: HostRuntime) -> Result<(), Fail> {
     let alloc = rt.alloc();
@@ -307,8 +319,9 @@ fn too_large_a_file_is_refused(rt: HostRuntime) -> Result<(), Fail> {
     Ok(())
 }
 
-// Words other than `solve` and one word that isn't empty are refused, whatever the shelf has: for the command first,
-// then for a missing word, one past the last, then for the first word too many, then for the leftmost bad one.
+// Words other than `solve` and one word that isn't empty are refused, whatever the shelf has: for
+// the command first, then for a missing word, one past the last, then for the first word too many,
+// then for the leftmost bad one.
 #[test]
 fn other_words_are_refused(rt: HostRuntime) -> Result<(), Fail> {
     let rows: [(&[&str], &[u8]); 7] = [
@@ -328,8 +341,9 @@ fn other_words_are_refused(rt: HostRuntime) -> Result<(), Fail> {
     Ok(())
 }
 
-// Each call of the shelf failing in turn ends the run with a read fault and nothing printed, until none is left to
-// fail: two reads, of the bytes and of the end. A name that wasn't put is a fault as well.
+// Each call of the shelf failing in turn ends the run with a read fault and nothing printed, until
+// none is left to fail: two reads, of the bytes and of the end. A name that wasn't put is a fault
+// as well.
 #[test]
 fn each_failing_read_ends_the_run(rt: HostRuntime) -> Result<(), Fail> {
     for call in 0..3 {
@@ -385,7 +399,8 @@ impl<O: Sink> Sink for Slow<O> {
     }
 }
 
-// Byte by byte the same is read and printed. Each write failing in turn leaves what was written before it.
+// Byte by byte the same is read and printed. Each write failing in turn leaves what was written
+// before it.
 #[test]
 fn each_failing_write_cuts_the_report(rt: HostRuntime) -> Result<(), Fail> {
     let alloc = rt.alloc();

@@ -23,8 +23,9 @@ impl<'a> Command<'a> {
 /// The words were refused.
 #[derive(Clone, Copy, Debug, PartialEq, Eq)]
 pub struct WordFault {
-    /// The place, counted from 1, of the first word that isn't as it should be: first the command, then a missing word
-    /// (one past the last), then the first word too many, then the leftmost bad one.
+    /// The place, counted from 1, of the first word that isn't as it should be: first the command,
+    /// then a missing word (one past the last), then the first word too many, then the leftmost bad
+    /// one.
     pub place: u32,
 }
 

@@ -25,8 +25,8 @@ fn is_present(lib: &Library, arch: &Architecture, v: VarId) -> bool
     }
 }
 
-/// The cube of an architecture: each member is fixed, to 1 where it is present and to 0 where it isn't. No other
-/// architecture of the library has this cube, so that `architecture_of` leads back.
+/// The cube of an architecture: each member is fixed, to 1 where it is present and to 0 where it
+/// isn't. No other architecture of the library has this cube, so that `architecture_of` leads back.
 pub fn cube_of(lib: &Library, arch: &Architecture) -> Cube
     requires { IsArchitecture lib.now arch.now }
     ensures cube { IsCubeOf lib.now arch.now result }
@@ -70,8 +70,8 @@ fn edges_among(members: &MemberSet, components: u32, edges: u32) -> EdgeSet
     chosen
 }
 
-/// The architecture of a cube in which nothing is free: the members that are fixed to 1, which are to keep the ends of
-/// each edge. It has no other cube, so that `cube_of` leads back.
+/// The architecture of a cube in which nothing is free: the members that are fixed to 1, which are
+/// to keep the ends of each edge. It has no other cube, so that `cube_of` leads back.
 pub fn architecture_of(lib: &Library, cube: &Cube) -> Architecture
     requires full { FixesAll lib.now cube.now }
     requires ends { member.KeepsEnds lib.now (has cube.now.ones) }

@@ -25,8 +25,8 @@ pub enum LibClass {
     Duplicate,
     /// A type or a component is named that doesn't exist.
     UnknownName,
-    /// A number is out of its range, a role or kind isn't one of the words, or `exclusive` names one
-    /// type as both `a` and `b`.
+    /// A number is out of its range, a role or kind isn't one of the words, or `exclusive` names
+    /// one type as both `a` and `b`.
     Range,
     /// There are too many components, edges or patterns.
     TooMany,

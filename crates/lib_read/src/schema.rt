@@ -28,8 +28,9 @@ pub(crate) enum Meaning {
     ComponentName,
     /// An integer from `low` to `high`.
     Number { low: u64, high: u64 },
-    /// Any text, and any integer.
+    /// Any text.
     Text,
+    /// Any integer.
     Integer,
 }
 

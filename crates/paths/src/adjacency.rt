@@ -25,8 +25,8 @@ fn ends(edge: &Edge, way: Way) -> (CompId, CompId)
     }
 }
 
-// For each component the set of those to which an edge leads from it that is chosen and not failed; edge e is member
-// n + e. Only the chosen edges are looked at.
+// For each component the set of those to which an edge leads from it that is chosen and not failed;
+// edge e is member n + e. Only the chosen edges are looked at.
 pub(crate) fn rows_of(
     edges: &[Edge],
     way: Way,

@@ -1,10 +1,11 @@
 //! Which components are reached from the sources, and which sets of members part a sink from them.
 //!
-//! A member is a component or an edge. `reach` answers the components to which a path leads on which
-//! nothing is failed, `parted` whether there is none to a sink, and `ancestors` the components from
-//! which a sink is reached. The answers are those of the definitions of `arch_model`, exactly, for
-//! each architecture of a library and each set of failed members: the layers above, which list
-//! minimal cut sets and weigh failures, ask no other questions of a network.
+//! A member is a component or an edge. `reach` answers the components to which a path leads on
+//! which nothing is failed, `parted` whether there is none to a sink, and `ancestors` the
+//! components from which a sink is reached. The answers are those of the definitions of
+//! `arch_model`, exactly, for each architecture of a library and each set of failed members: the
+//! layers above, which list minimal cut sets and weigh failures, ask no other questions of a
+//! network.
 //!
 //! The search is textbook breadth-first reachability by bit masks. One pass over the present edges
 //! makes a row of successors for each component, as a mask; then each round joins the rows of what

@@ -10,8 +10,8 @@ use crate::standing::{outside, sources};
 use arch_model::{Architecture, CompId, CompSet, Library, MemberSet};
 
 /// The components to which a path leads: a list of present components from a source on, each joined
-/// to the next by a present edge, with no component or joining edge of it in `failed`. A source that
-/// is present and outside `failed` is reached.
+/// to the next by a present edge, with no component or joining edge of it in `failed`. A source
+/// that is present and outside `failed` is reached.
 pub fn reach(lib: &Library, arch: &Architecture, failed: MemberSet) -> CompSet
     requires { IsArchitecture lib.now arch.now }
     ensures { (c : ℕ) → IsTrue (set.has result c)

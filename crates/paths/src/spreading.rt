@@ -20,8 +20,8 @@ fn entered(rows: &[CompSet; COMPONENTS], up: &CompSet, from: &CompSet) -> CompSe
     found.intersection(up)
 }
 
-// All to which a walk over the rows leads, from those of `first` over those that are up. Each round looks at the rows
-// of what the round before reached first.
+// All to which a walk over the rows leads, from those of `first` over those that are up. Each round
+// looks at the rows of what the round before reached first.
 pub(crate) fn closure(rows: &[CompSet; COMPONENTS], up: &CompSet, first: &CompSet) -> CompSet
     requires { (c : ℕ) → IsTrue (set.has up.now c) → c < COMPONENTS }
     ensures { (c : ℕ) → IsTrue (set.has result c)

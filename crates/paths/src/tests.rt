@@ -130,8 +130,8 @@ fn architecture(components: &[u32], edges: &[u32]) -> Architecture {
     Architecture::new(comps(components), set)
 }
 
-// Failed members, and what is found then: the components that are reached, whether the sink is parted, and its
-// ancestors.
+// Failed members, and what is found then: the components that are reached, whether the sink is
+// parted, and its ancestors.
 #[derive(Drop)]
 struct Case {
     failed: &'static [u32],
@@ -157,9 +157,10 @@ fn expect(rt: &impl Abort, lib: &Library, arch: &Architecture, sink: u32, cases:
     }
 }
 
-// Two generators, two buses and a load. Components 0 to 4 are gen.1, gen.2, bus.1, bus.2 and load.1. Edges 0 to 3 are
-// from gen.1 to each bus and from gen.2 to each bus, and edges 4 and 5 from each bus to the load; as members they are 5
-// to 10. Here gen.1 feeds bus.1, and gen.2 feeds bus.2.
+// Two generators, two buses and a load. Components 0 to 4 are gen.1, gen.2, bus.1, bus.2 and
+// load.1. Edges 0 to 3 are from gen.1 to each bus and from gen.2 to each bus, and edges 4 and 5
+// from each bus to the load; as members they are 5 to 10. Here gen.1 feeds bus.1, and gen.2 feeds
+// bus.2.
 #[test]
 fn two_chains_fail_one_by_one(rt: HostRuntime) -> Result<(), Fail> {
     let types = [
@@ -205,8 +206,8 @@ fn two_chains_fail_one_by_one(rt: HostRuntime) -> Result<(), Fail> {
     Ok(())
 }
 
-// A source a that feeds the sink t, and a source c that feeds it through b1 and b2. Components 0 to 4 are a, c, b1, b2
-// and t. Edges are a to t, c to b1, b1 to b2 and b2 to t, as members 5 to 8.
+// A source a that feeds the sink t, and a source c that feeds it through b1 and b2. Components 0 to
+// 4 are a, c, b1, b2 and t. Edges are a to t, c to b1, b1 to b2 and b2 to t, as members 5 to 8.
 #[test]
 fn a_long_chain_is_walked_to_its_end(rt: HostRuntime) -> Result<(), Fail> {
     let types = [
@@ -262,8 +263,9 @@ fn a_long_chain_is_walked_to_its_end(rt: HostRuntime) -> Result<(), Fail> {
     Ok(())
 }
 
-// The types of an aircraft's power network with a left, right, auxiliary and emergency side: generators 0 to 3, then
-// buses 4 to 7, converters 8 to 11, buses 12 to 15 behind them, and the loads flight, avionics and cabin 16 to 18.
+// The types of an aircraft's power network with a left, right, auxiliary and emergency side:
+// generators 0 to 3, then buses 4 to 7, converters 8 to 11, buses 12 to 15 behind them, and the
+// loads flight, avionics and cabin 16 to 18.
 fn aircraft_types() -> [TypeRow; 19] {
     [
         row("lgen", Role::Source, 1, 100),
@@ -288,8 +290,9 @@ fn aircraft_types() -> [TypeRow; 19] {
     ]
 }
 
-// The left, right and emergency sides stand. Edge e is member 19 + e: edges 0 to 11 lead down the four sides, 12 to 15
-// from them to flight, 16 and 17 from left and right to avionics, 18 and 19 from left and auxiliary to cabin.
+// The left, right and emergency sides stand. Edge e is member 19 + e: edges 0 to 11 lead down the
+// four sides, 12 to 15 from them to flight, 16 and 17 from left and right to avionics, 18 and 19
+// from left and auxiliary to cabin.
 #[test]
 fn an_aircraft_flies_on_its_emergency_side(rt: HostRuntime) -> Result<(), Fail> {
     let links = [

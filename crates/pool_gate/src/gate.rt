@@ -14,7 +14,8 @@ use std::marker::Model;
 use std::snapshot::Snapshot;
 use std::sync::Wait;
 
-/// One value that seats take turns at. A clause sees which gate it is, so that a call can ask for seats of this gate.
+/// One value that seats take turns at. A clause sees which gate it is, so that a call can ask for
+/// seats of this gate.
 #[derive(Drop)]
 pub struct Gate<V: Held> {
     table: Table<Option<V>, SeatView<V::About>, Opening<V>, GateRule, Global>,
@@ -33,9 +34,11 @@ impl<V: Held> Model for Gate<V> {
     ghost invariant = { λ g. (g.table.shared.table_id.words ≡ 1) × (g.table.shared.table_id.slots ≡ 1) };
 }
 
-/// A turn: it owns the value and the seat until both are given back. It can't be dropped: `Gate::give` ends it.
+/// A turn: it owns the value and the seat until both are given back. It can't be dropped:
+/// `Gate::give` ends it.
 pub struct Turn<V: Held> {
-    /// The value, which may be changed, but only to one about the same and of the same count or one more.
+    /// The value, which may be changed, but only to one about the same and of the same count or one
+    /// more.
     pub value: V,
     /// The seat whose turn it is.
     pub seat: GateSeat<V>,
@@ -57,8 +60,8 @@ pub struct Unopened<V: Held> {
     pub value: V,
 }
 
-/// A gate for a value, and its first seat, with number 0 and the numbers from 1 up to the number of seats to give out.
-/// The only error is want of memory, and hands the value back.
+/// A gate for a value, and its first seat, with number 0 and the numbers from 1 up to the number of
+/// seats to give out. The only error is want of memory, and hands the value back.
 pub fn open_gate<V: Held>(
     alloc: Global,
     value: V,
@@ -103,9 +106,10 @@ pub fn open_gate<V: Held>(
 }
 
 impl<V: Held> Gate<V> {
-    /// Tries to take a turn, by one step: a fetch_or of the word with 1, and the seat's `found` grows by the word that
-    /// it found. A turn comes exactly where that word is even, and is then twice the value's count. Busy comes exactly
-    /// where it is odd, so while no number of seat 0 is away, never to seat 0.
+    /// Tries to take a turn, by one step: a fetch_or of the word with 1, and the seat's `found`
+    /// grows by the word that it found. A turn comes exactly where that word is even, and is then
+    /// twice the value's count. Busy comes exactly where it is odd, so while no number of seat 0 is
+    /// away, never to seat 0.
     pub fn try_turn(&self, seat: GateSeat<V>) -> Result<Turn<V>, Busy<V>>
         requires gate { seat.gate ≡ self.now }
         requires free { seat.view.in_turn ≡ false }
@@ -146,7 +150,8 @@ impl<V: Held> Gate<V> {
         seat
     }
 
-    /// A new seat, with the greatest spare number of the old one and what that has seen. The number is then away.
+    /// A new seat, with the greatest spare number of the old one and what that has seen. The number
+    /// is then away.
     pub fn split(&self, seat: &mut GateSeat<V>) -> GateSeat<V>
         requires gate { seat.old.gate ≡ self.now }
         requires free { seat.old.view.in_turn ≡ false }
@@ -166,8 +171,8 @@ impl<V: Held> Gate<V> {
         }
     }
 
-    /// Joins a seat back into the one that it was split off: that has then seen what both saw, and the number is no
-    /// longer away.
+    /// Joins a seat back into the one that it was split off: that has then seen what both saw, and
+    /// the number is no longer away.
     pub fn join(&self, into: &mut GateSeat<V>, from: GateSeat<V>)
         requires gate { (into.old.gate ≡ self.now) × (from.gate ≡ self.now) }
         requires free { (into.old.view.in_turn ≡ false) × (from.view.in_turn ≡ false) }
@@ -197,8 +202,8 @@ impl<V: Held> Gate<V> {
         value
     }
 
-    /// Takes a turn: tries until a try finds an even word, and sleeps between tries. The seat's `found` grows by all
-    /// that they found. It may wait for ever.
+    /// Takes a turn: tries until a try finds an even word, and sleeps between tries. The seat's
+    /// `found` grows by all that they found. It may wait for ever.
     pub fn turn<R: Wait>(&self, rt: &R, seat: GateSeat<V>) -> Turn<V>
         requires gate { seat.gate ≡ self.now }
         requires free { seat.view.in_turn ≡ false }

@@ -1,8 +1,8 @@
 // What may lie behind a gate.
 ghost use Rattle.std.specs.Prelude.{◌≡◌, ℕ, ◌^◌, ◌<◌};
 
-/// A value that may lie behind a gate. It has two meanings: what it is about, and its count. Its one function reads the
-/// count, so a gate can neither make, copy nor change such a value.
+/// A value that may lie behind a gate. It has two meanings: what it is about, and its count. Its
+/// one function reads the count, so a gate can neither make, copy nor change such a value.
 pub trait Held: Drop {
     /// What a value can be about.
     type About;

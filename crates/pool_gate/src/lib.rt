@@ -1,16 +1,17 @@
 //! A gate: one value that several seats take turns at, each seat in a thread of its own.
 //!
-//! A turn hands the value out and takes it back. What the gate promises is about which value that is: it is about
-//! what every seat knows (`Held::about`, as the problem that a pool of work is for), and it is never older than what
-//! the seat has seen: its count, which a turn may raise by one, is at least the count that the seat saw or gave back
-//! before. So no value of another problem and no earlier one comes back, whatever the other seats do and in whatever
-//! order.
+//! A turn hands the value out and takes it back. What the gate promises is about which value that
+//! is: it is about what every seat knows (`Held::about`, as the problem that a pool of work is
+//! for), and it is never older than what the seat has seen: its count, which a turn may raise by
+//! one, is at least the count that the seat saw or gave back before. So no value of another problem
+//! and no earlier one comes back, whatever the other seats do and in whatever order.
 //!
-//! There is no lock. Word 0 of an `atomic_table` is twice the value's count, and one more while a seat is in a turn;
-//! the value stands in the table's one slot. A turn begins with a fetch_or of the word that finds it even, and ends
-//! with the swap that makes it even again. `try_turn` is one such step and never waits; `turn` tries until it finds
-//! the word even, and sleeps between. A rule about all seats and the word holds between any two steps
-//! (`specs/Rule.antt`), and each kind of step is proved to keep it.
+//! There is no lock. Word 0 of an `atomic_table` is twice the value's count, and one more while a
+//! seat is in a turn; the value stands in the table's one slot. A turn begins with a fetch_or of
+//! the word that finds it even, and ends with the swap that makes it even again. `try_turn` is one
+//! such step and never waits; `turn` tries until it finds the word even, and sleeps between. A rule
+//! about all seats and the word holds between any two steps (`specs/Rule.antt`), and each kind of
+//! step is proved to keep it.
 //!
 //! Not promised: that anybody gets a turn, fairness, or that a turn is ever given back.
 #![tactic(auto)]

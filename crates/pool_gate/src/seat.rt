@@ -7,8 +7,8 @@ use crate::view::SeatView;
 use atomic_table::Seat;
 use std::marker::Model;
 
-/// A seat at a gate: who takes turns. It knows what the value is about and which count it has seen, and has no value
-/// unless it is in a turn.
+/// A seat at a gate: who takes turns. It knows what the value is about and which count it has seen,
+/// and has no value unless it is in a turn.
 #[derive(Drop)]
 pub struct GateSeat<V: Held> {
     pub(crate) number: u32,

@@ -1,7 +1,7 @@
 // What a seat knows.
 
-/// What a seat knows, as clauses see it. No value of it is made: clauses and proofs alone speak of it, and read each
-/// array as a list of any length.
+/// What a seat knows, as clauses see it. No value of it is made: clauses and proofs alone speak of
+/// it, and read each array as a list of any length.
 pub struct SeatView<A> {
     /// Its number, which no other seat of the gate has.
     pub number: u32,

@@ -1,5 +1,5 @@
 -- Worked rows: what the definitions compute on small libraries.
-use Rattle.std.proofs.Common.{◌≡◌, ℕ, ℤ, pos, negsuc, true, false, List, [], ◌∷◌, map, take, drop, replicate, Option, Some, None, refl}
+use Rattle.std.proofs.Common.{◌≡◌, ℕ, ℤ, pos, negsuc, true, false, nat_eq, arith, List, [], ◌∷◌, map, take, drop, replicate, Option, Some, None, refl}
 use Rattle.std.specs.List.{range_with_len, list_all}
 use Rattle.arch_model.specs.declared.library.TypeRow.{TypeRow}
 use Rattle.arch_model.specs.declared.library.LinkRow.{LinkRow}
@@ -14,7 +14,8 @@ use Rattle.rows.specs.declared.row.Term.{Term}
 use Rattle.rows.specs.declared.known.Pair.{Pair}
 use Rattle.rows.specs.declared.known.RowRef.TheVariants.{Base, Cut, Cost}
 use Rattle.rows.specs.Parts.{RowParts, KnownParts}
-use Rattle.rows.specs.Row.{term}
+use Rattle.rows.specs.Row.{term, RowHolds}
+use Rattle.std.proofs.lemmas.Int.{ints}
 use Rattle.rows.specs.Cube.{whole, fixed_at, is_free}
 use Rattle.rows.specs.Activity.{is_refuted, least_forced, is_quiet_at}
 use Rattle.rows.specs.Known.{known_rows}
@@ -206,6 +207,13 @@ p_row = row (term 0 (pos 1) ∷ term 1 (pos 1) ∷ []) (pos 1)
 p-rows : base_rows_of (lib_p 1) ≡ p_row ∷ []
 unfolding base_rows_of
 p-rows = refl
+
+-- P's row holds where the second source alone is present, and not where none is
+p-holds : RowHolds p_row (λ v. nat_eq v 1)
+p-holds = omega (arith, ints)
+
+p-fails : RowHolds p_row (λ v. false) → ⊥
+p-fails h = absurd (omega (arith, ints))
 
 -- P's row neither forces nor is refuted in the whole cube
 p-whole-forced : least_forced p_row whole ≡ None

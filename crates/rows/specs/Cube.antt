@@ -1,5 +1,5 @@
 -- Cubes: some variables are fixed to 0 or 1, the others are free.
-use Rattle.std.specs.Prelude.{◌≡◌, ℕ, ◌<◌, Bool, not, Option, Some, None, IsTrue, if◌then◌else◌}
+use Rattle.std.specs.Prelude.{◌≡◌, ℕ, ◌<◌, nat_lt, Bool, not, Option, Some, None, IsTrue, if◌then◌else◌}
 use Rattle.arch_model.specs.Set.{has, empty, put}
 use Rattle.arch_model.specs.declared.limits.TheConstants.{MEMBERS}
 use Rattle.rows.specs.Parts.{CubeParts}
@@ -28,6 +28,10 @@ fixed_at cube v b = record { fixed = put cube.fixed v; ones = if b then put cube
 -- a vector lies in a cube where it agrees with it
 abbrev pub LiesIn : (ℕ → Bool) → CubeParts → Type 0
 LiesIn x cube = (v : ℕ) → IsTrue (has cube.fixed v) → x v ≡ has cube.ones v
+
+-- exactly the variables below n are fixed
+abbrev pub FixesBelow : ℕ → CubeParts → Type 0
+FixesBelow n cube = (v : ℕ) → has cube.fixed v ≡ nat_lt v n
 
 -- the variables that a cube fixes are below n
 abbrev pub IsCubeBelow : ℕ → CubeParts → Type 0

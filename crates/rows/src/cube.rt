@@ -9,8 +9,8 @@ use arch_model::limits::MEMBERS;
 use arch_model::{MemberSet, VarId};
 use std::marker::Model;
 
-/// A choice of values for some variables; the others are free. Two cubes are equal where they give the same variables
-/// the same values: only fixed variables are fixed to 1 (`IsCube`).
+/// A choice of values for some variables; the others are free. Two cubes are equal where they give
+/// the same variables the same values: only fixed variables are fixed to 1 (`IsCube`).
 #[derive(Clone, Copy)]
 pub struct Cube {
     fixed: MemberSet,

@@ -11,8 +11,8 @@ use arch_model::{MemberSet, Memory, VarId};
 use std::alloc::Global;
 use std::marker::Model;
 
-/// The row of a cut: coefficients 1 and -1 at two sets of variables, and a least. Each value of the type has no
-/// variable in both sets, and a least of at most 10^16 in absolute value (`IsCut`).
+/// The row of a cut: coefficients 1 and -1 at two sets of variables, and a least. Each value of the
+/// type has no variable in both sets, and a least of at most 10^16 in absolute value (`IsCut`).
 #[derive(Clone, Copy)]
 pub struct CutRow {
     plus: MemberSet,

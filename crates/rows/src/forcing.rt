@@ -13,7 +13,8 @@ use crate::known::{Known, RowRef};
 use crate::row::Row;
 use arch_model::{Library, VarId};
 
-// To which value a variable is forced, from whether it is fixed, its coefficient and the room that the row has.
+// To which value a variable is forced, from whether it is fixed, its coefficient and the room that
+// the row has.
 fn forced_to(fixed: bool, coef: i128, room: i128) -> Option<bool>
     requires { IsSized coef }
     ensures { result ≡ forced_value fixed coef room }
@@ -113,9 +114,9 @@ pub fn forces_of_cost(lib: &Library, bound: u64, cube: &Cube) -> Option<(VarId, 
     forced_by_cost(lib, cube, room)
 }
 
-/// The least variable that a row forces in a cube, and the value to which; None where the row is refuted or forces
-/// nothing. A row forces a free variable to a value where it isn't refuted, but is once the variable has the other
-/// value.
+/// The least variable that a row forces in a cube, and the value to which; None where the row is
+/// refuted or forces nothing. A row forces a free variable to a value where it isn't refuted, but
+/// is once the variable has the other value.
 pub fn forces(known: &Known, r: RowRef, cube: &Cube) -> Option<(VarId, bool)>
     requires { IsTrue (has_row (parts_of known.now) r) }
     ensures { IfSome (row_at (parts_of known.now) r) (λ row. option_map number_of result ≡ least_forced row cube.now) }

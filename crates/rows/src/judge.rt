@@ -18,7 +18,8 @@ use crate::known::{Known, RowRef};
 use crate::row::Row;
 use arch_model::{Component, Edge, Library, MemberSet, VarId};
 
-/// Whether there is a row of this name: a base row, a cut that is known, or, where there is a bound, the cost row.
+/// Whether there is a row of this name: a base row, a cut that is known, or, where there is a
+/// bound, the cost row.
 pub fn has(known: &Known, r: RowRef) -> bool
     ensures { result ≡ has_row (parts_of known.now) r }
 {
@@ -52,7 +53,8 @@ pub fn greatest_of_row(row: &Row, cube: &Cube) -> i128
     total
 }
 
-// The same for a cut: how many variables of the one set aren't at 0, less how many of the other are at 1.
+// The same for a cut: how many variables of the one set aren't at 0, less how many of the other are
+// at 1.
 pub fn greatest_of_cut(cut: &CutRow, cube: &Cube) -> i128
     ensures value { result ≡ greatest_activity (row_of_cut cut.now) cube.now }
     ensures small { unsigned_abs result ≤ 2 ^ 118 }
@@ -63,7 +65,8 @@ pub fn greatest_of_cut(cut: &CutRow, cube: &Cube) -> i128
     most as i128 - least as i128
 }
 
-/// The greatest value that a row's sum takes in a cube: fixed variables at their values, free ones at the better one.
+/// The greatest value that a row's sum takes in a cube: fixed variables at their values, free ones
+/// at the better one.
 pub fn greatest(known: &Known, r: RowRef, cube: &Cube) -> i128
     requires { IsTrue (has_row (parts_of known.now) r) }
     ensures value { IfSome (row_at (parts_of known.now) r) (λ row. result ≡ greatest_activity row cube.now) }

@@ -57,8 +57,8 @@ impl Trace {
     }
 }
 
-/// Rows with multipliers, which are added up. Each value of the type has 1 to 64 pairs, each with a multiplier of 1 to
-/// 10^12 (`IsReason`).
+/// Rows with multipliers, which are added up. Each value of the type has 1 to 64 pairs, each with a
+/// multiplier of 1 to 10^12 (`IsReason`).
 #[derive(Drop)]
 pub struct Reason {
     pairs: Vec<Pair>,
@@ -95,9 +95,10 @@ impl Reason {
     }
 }
 
-/// What a node of the search knows: the problem's base rows, the cuts numbered below `upto`, and, where there is a
-/// bound, that the cost is below it, in cost units. There have to be at least `upto` cuts over the problem's variables
-/// (`IsKnown`) for a combination to be the sum of its rows.
+/// What a node of the search knows: the problem's base rows, the cuts numbered below `upto`, and,
+/// where there is a bound, that the cost is below it, in cost units. There have to be at least
+/// `upto` cuts over the problem's variables (`IsKnown`) for a combination to be the sum of its
+/// rows.
 #[derive(Clone, Copy)]
 pub struct Known<'a> {
     /// The problem.

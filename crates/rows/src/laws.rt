@@ -25,8 +25,8 @@ pub fn forced_values_are_kept()
         → Forces row cube v b → LiesIn x cube → RowHolds row x → x v ≡ b }
 {}
 
-/// The least forced variable is the least of all that the row forces, with the value to which it is forced, and there is
-/// none exactly where the row forces nothing.
+/// The least forced variable is the least of all that the row forces, with the value to which it is
+/// forced, and there is none exactly where the row forces nothing.
 pub fn the_least_is_forced()
     ensures least { (row : RowParts) (cube : CubeParts) → IsStrictlyIncreasing (map (λ t. t.var.0) row.terms)
         → IsCube cube → (v : ℕ) (b : Bool) → (least_forced row cube ≡ Some (v, b)) ↔ IsLeastForced row cube v b }
@@ -34,14 +34,15 @@ pub fn the_least_is_forced()
         → IsCube cube → (least_forced row cube ≡ None) ↔ ((v : ℕ) (b : Bool) → Forces row cube v b → ⊥) }
 {}
 
-/// Where nothing is free, a row is refuted exactly where the one vector of the cube doesn't meet it.
+/// Where nothing is free, a row is refuted exactly where the one vector of the cube doesn't meet
+/// it.
 pub fn full_cubes_are_vectors()
     ensures { (n : ℕ) (row : RowParts) (cube : CubeParts) → IsRowBelow n row → IsFull n cube
         → (is_refuted row cube ≡ false) ↔ RowHolds row (has cube.ones) }
 {}
 
-/// The edges' rows ask for each present edge's ends: a vector meets all of them exactly where it is that of an
-/// architecture.
+/// The edges' rows ask for each present edge's ends: a vector meets all of them exactly where it is
+/// that of an architecture.
 pub fn edge_rows_ask_for_ends()
     ensures { (lib : LibraryParts) (x : ℕ → Bool) → IsLibrary lib
         → All (λ row. RowHolds row x) (edge_rows lib)

@@ -1,16 +1,18 @@
 //! The rows of the 0-1 program: the language in which the search, the log and the checker speak.
 //!
-//! A row says that a sum of coefficients of variables, 0 or 1 for each member of a network's template, is at least a
-//! number. The base rows of a library say what its edges, requirements and patterns ask; a learned cut and the cost row
-//! for a bound are rows as well. A cube fixes some variables. The definitions stand in `specs/`: when a vector meets a
-//! row, the greatest activity of a row in a cube, when it is refuted and what it forces (textbook propagation), the
-//! base rows one kind of pattern after another, legal traces and the cube after one, the combination of a reason, quiet
-//! cubes, and the ascent (integer dual ascent in a fixed order).
+//! A row says that a sum of coefficients of variables, 0 or 1 for each member of a network's
+//! template, is at least a number. The base rows of a library say what its edges, requirements and
+//! patterns ask; a learned cut and the cost row for a bound are rows as well. A cube fixes some
+//! variables. The definitions stand in `specs/`: when a vector meets a row, the greatest activity
+//! of a row in a cube, when it is refuted and what it forces (textbook propagation), the base rows
+//! one kind of pattern after another, legal traces and the cube after one, the combination of a
+//! reason, quiet cubes, and the ascent (integer dual ascent in a fixed order).
 //!
-//! The layer above is promised these definitions exactly: `greatest`, `refuted`, `forces`, `together` and `quiet` say
-//! what they say of the rows that are known. A `Problem` keeps that its rows decide its library's patterns, and `Row`,
-//! `CutRow`, `Cube` and `Reason` their ranges. It stands on `arch_model` alone. Cuts and cubes are bit masks, and only
-//! `copy`, `clone`, `push` and `reserve` take memory.
+//! The layer above is promised these definitions exactly: `greatest`, `refuted`, `forces`,
+//! `together` and `quiet` say what they say of the rows that are known. A `Problem` keeps that its
+//! rows decide its library's patterns, and `Row`, `CutRow`, `Cube` and `Reason` their ranges. It
+//! stands on `arch_model` alone. Cuts and cubes are bit masks, and only `copy`, `clone`, `push` and
+//! `reserve` take memory.
 #![tactic(auto)]
 
 mod cost;

@@ -7,9 +7,10 @@ use crate::row::Row;
 use arch_model::{Library, Memory};
 use std::marker::Model;
 
-/// A library and its base rows. Each value of the type has rows that decide the library's patterns: there are fewer
-/// than 2^32 of them over the library's variables, and a vector meets all of them exactly where it is that of an
-/// architecture that meets every pattern and has every required sink (`IsProblem`).
+/// A library and its base rows. Each value of the type has rows that decide the library's patterns:
+/// there are fewer than 2^32 of them over the library's variables, and a vector meets all of them
+/// exactly where it is that of an architecture that meets every pattern and has every required sink
+/// (`IsProblem`).
 #[derive(Drop)]
 pub struct Problem {
     library: Library,

@@ -82,8 +82,8 @@ fn known_is_quiet(known: &Known, cube: &Cube) -> bool
     cuts && bound_is_quiet(known, cube)
 }
 
-/// Whether a cube is quiet: no base row, no cut that is known and, where there is a bound, no cost row is refuted or
-/// forces there.
+/// Whether a cube is quiet: no base row, no cut that is known and, where there is a bound, no cost
+/// row is refuted or forces there.
 pub fn quiet(known: &Known, cube: &Cube) -> bool
     ensures { IsTrue result ↔ IsQuiet (parts_of known.now) cube.now }
 {

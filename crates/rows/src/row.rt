@@ -14,8 +14,9 @@ pub struct Term {
     pub coef: i128,
 }
 
-/// A row of the 0-1 program: the sum of its terms is at least its least. Each value of the type has terms that ascend
-/// by variable, no coefficient 0, and numbers of at most 10^16 in absolute value (`IsRow`).
+/// A row of the 0-1 program: the sum of its terms is at least its least. Each value of the type has
+/// terms that ascend by variable, no coefficient 0, and numbers of at most 10^16 in absolute value
+/// (`IsRow`).
 #[derive(Drop)]
 pub struct Row {
     terms: Vec<Term>,

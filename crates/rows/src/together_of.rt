@@ -89,7 +89,8 @@ fn combined_least(known: &Known, reason: &Reason) -> i128
     total
 }
 
-/// Whether the combination of a reason, the sum of its rows with their multipliers, is refuted in a cube.
+/// Whether the combination of a reason, the sum of its rows with their multipliers, is refuted in a
+/// cube.
 pub fn together(known: &Known, reason: &Reason, cube: &Cube) -> bool
     requires { AllThere (parts_of known.now) reason.now }
     ensures { result ≡ is_together (parts_of known.now) reason.now cube.now }

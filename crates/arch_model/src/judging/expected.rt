@@ -1,4 +1,5 @@
-// Whether components and edges are those of types and links: each walk takes from a list what it must begin with.
+// Whether components and edges are those of types and links: each walk takes from a list what it
+// must begin with.
 ghost use Rattle.std.specs.Prelude.{◌≡◌, ◌↔◌, ◌++◌, List, ◌∷◌, IsTrue, IsSome, IfSome};
 ghost use Rattle.arch_model.specs.Template.{components_of, instances_of_type, instances_of, edges_of, edges_of_link};
 ghost use Rattle.arch_model.specs.Expected.{instance_of_type, edge_of, edges_to};

@@ -4,7 +4,7 @@ use Rattle.arch_model.specs.Member.{member_count}
 use Rattle.arch_model.specs.Architecture.{cost_of}
 use Rattle.rows.specs.Activity.{is_refuted}
 use Rattle.rows.specs.BaseRows.{cost_row_of}
-use Rattle.archex_app.specs.Search.{FixesBelow}
+use Rattle.rows.specs.Cube.{FixesBelow}
 use Rattle.archex_app.proofs.SearchLaws.{dropped_by_rows, dropped_by_bound, cheaper, covered_both}
 use Rattle.archex_app.proofs.search.+search.Goals as goal
 

@@ -1,7 +1,7 @@
 use Rattle.std.proofs.Common.{◌+◌, sym, subst}
 use Rattle.rows.specs.Parts.{CubeParts}
 use Rattle.rows.specs.Cube.{LiesIn}
-use Rattle.archex_app.specs.Search.{FixesBelow}
+use Rattle.rows.specs.Cube.{FixesBelow}
 use Rattle.archex_app.proofs.SearchLaws.{fixes_one_more, lies_in_fixed}
 use Rattle.archex_app.proofs.search.with.Goals as goal
 
