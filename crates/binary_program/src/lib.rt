@@ -9,7 +9,7 @@
 //!
 //! Modelling conditions by linear inequalities over 0-1 variables is textbook integer programming.
 //! The layer above is promised that the rows decide the patterns, and needs no pattern again.
-//! Stands on `arch_model` and `rows`; only `problem_of` takes memory.
+//! Stands on `arch_model` and `rows`, and its tests on `template`; only `problem_of` takes memory.
 #![tactic(auto)]
 
 mod adding;

@@ -4,13 +4,14 @@ ghost use Rattle.arch_model.specs.Name.{IsTypeName};
 use crate::adding::row_from;
 use crate::{architecture_of, cube_of, problem_of};
 use arch_model::{
-    Architecture, CompId, CompSet, Component, Edge, EdgeId, EdgeSet, Library, LinkRow, Memory,
-    Name, Pattern, Requirement, Role, Template, TypeRow, VarId, fits, is_library,
+    Architecture, CompId, CompSet, EdgeId, EdgeSet, Library, LinkRow, Memory, Name, Pattern,
+    Requirement, Role, TypeRow, VarId, fits, is_library,
 };
 use rows::{Row, Term};
 use std::alloc::Global;
 use std::process::Abort;
 use std::test::Fail;
+use template::{expand, has_few_components};
 
 // A row of a type that never fails.
 fn row(name: &str, role: Role, max: u32, cost: u64, supply: u64, demand: u64) -> TypeRow
@@ -37,64 +38,6 @@ fn link(from: u32, to: u32, cost: u64) -> LinkRow {
     }
 }
 
-// The components of some types.
-fn components(alloc: Global, types: &[TypeRow]) -> Result<Vec<Component>, Memory> {
-    let mut components = Vec::new(alloc);
-    let mut of: u32 = 0;
-    for row in types {
-        for i in 0..row.max {
-            components.push(Component {
-                of,
-                index: i + 1,
-                role: row.role,
-                cost: row.cost,
-                supply: row.supply,
-                demand: row.demand,
-                fail: row.fail,
-            })?;
-        }
-        of = of.wrapping_add(1);
-    }
-    Ok(components)
-}
-
-// Appends the edges of a link that leave one component.
-fn push_edges(
-    edges: &mut Vec<Edge>,
-    components: &[Component],
-    link: &LinkRow,
-    tail: u32,
-) -> Result<(), Memory> {
-    let mut head: u32 = 0;
-    for component in components {
-        if component.of == link.to && head != tail {
-            edges.push(Edge {
-                tail: CompId(tail),
-                head: CompId(head),
-                cost: link.cost,
-                fail: link.fail,
-            })?;
-        }
-        head = head.wrapping_add(1);
-    }
-    Ok(())
-}
-
-// The edges of some links.
-fn edges(alloc: Global, components: &[Component], links: &[LinkRow]) -> Result<Vec<Edge>, Memory> {
-    let mut edges = Vec::new(alloc);
-    for link in links {
-        let mut tail: u32 = 0;
-        for component in components {
-            if component.of == link.from {
-                push_edges(&mut edges, components, link, tail)?;
-            }
-            tail = tail.wrapping_add(1);
-        }
-    }
-    Ok(edges)
-}
-
 // The library of some types, links and patterns, with a requirement for each of some sinks.
 fn library(
     rt: &(impl Abort + AllocGlobal),
@@ -106,9 +49,9 @@ fn library(
     let alloc = rt.alloc();
     let types = types.to_vec(alloc)?;
     let links = links.to_vec(alloc)?;
-    let components = components(alloc, &types)?;
-    let edges = edges(alloc, &components, &links)?;
-    let template = Template::new(components, edges);
+    assert!(rt; types.len() <= 64);
+    assert!(rt; has_few_components(&types));
+    let template = expand(alloc, &types, &links)?;
     let patterns = patterns.to_vec(alloc)?;
     let mut requirements = Vec::new(alloc);
     for sink in sinks {
