@@ -6,7 +6,7 @@ mod expected;
 mod rows;
 
 use crate::library::{LinkRow, Pattern, Requirement, TypeRow};
-use crate::limits::{COMPONENTS, EDGES};
+use crate::limits::{COMPONENTS, EDGES, PATTERNS, REQUIREMENTS};
 use crate::template::Template;
 use expected::{are_components, are_edges};
 use rows::{
@@ -34,10 +34,10 @@ pub fn is_library(
     if edges.len() > EDGES {
         return false;
     }
-    if patterns.len() > 200 {
+    if patterns.len() > PATTERNS {
         return false;
     }
-    if requirements.len() > 16 {
+    if requirements.len() > REQUIREMENTS {
         return false;
     }
     if !are_type_rows(types) {

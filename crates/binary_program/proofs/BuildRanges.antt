@@ -1,11 +1,10 @@
 -- The terms of rows are few, with small coefficients, over a library's members.
-use Rattle.std.proofs.Common.{◌≡◌, ℕ, zero, suc, ◌+◌, ◌^◌, ◌<◌, ◌≤◌, ℤ, pos, negsuc, neg_ℤ, ◌-ℤ◌, unsigned_abs, Bool, not, List, [], ◌∷◌, ◌++◌, map, filter, length, get_or, refl, sym, ap, subst, ◌∙◌, arith, inl, inr}
+use Rattle.std.proofs.Common.{◌≡◌, ℕ, zero, suc, ◌+◌, ◌^◌, ◌<◌, ◌≤◌, ℤ, pos, negsuc, neg_ℤ, ◌-ℤ◌, unsigned_abs, Bool, not, List, [], ◌∷◌, ◌++◌, map, filter, length, get_or, refl, sym, ap, subst, ◌∙◌, arith}
 use Rattle.std.specs.List.{All, enumerate_from}
 use Rattle.std.proofs.lemmas.List.{length-map, length-append}
 use Rattle.std.proofs.lemmas.List.Elements.{All-nil, All-cons, All-append, All-map, All-filter, All-from_get_or}
 use Rattle.std.proofs.lemmas.List.Filters.{length-filter_both}
 use Rattle.std.proofs.lemmas.List.FromFn.{length-enumerate_from, get_or-enumerate_from}
-use Rattle.std.proofs.lemmas.Option.{slice_get_cases}
 use Rattle.arch_model.specs.declared.sets.VarId.{VarId}
 use Rattle.arch_model.specs.declared.template.Component.{Component}
 use Rattle.arch_model.specs.declared.template.Edge.{Edge}
@@ -15,11 +14,12 @@ use Rattle.arch_model.specs.Library.{IsLibrary}
 use Rattle.arch_model.specs.Member.{member_count}
 use Rattle.arch_model.specs.Pattern.{at_component}
 use Rattle.arch_model.proofs.Ranges.{blank_component, blank_edge}
+use Rattle.arch_model.proofs.RowReads.{supplies_small, demands_small, at_small}
 use Rattle.rows.specs.declared.row.Term.{Term}
 use Rattle.rows.specs.Row.{term}
 use Rattle.binary_program.specs.Terms.{numbers_of, AreVariables, AreTerms}
 use Rattle.binary_program.proofs.BuildLists.{picked}
-use Rattle.binary_program.proofs.BuildTerms.{at_coef, number, balance, brought, asked, supplies_small, demands_small}
+use Rattle.binary_program.proofs.BuildTerms.{at_coef, number, balance, brought, asked}
 
 -- terms in a wider range
 pub terms_along : (n k m : ℕ) (xs ys : List Term) → xs ≡ ys → k ≤ m → AreTerms n k ys → AreTerms n m xs
@@ -96,13 +96,6 @@ pub are_balances : (lib : LibraryParts) → IsLibrary lib → AreTerms (member_c
 are_balances lib right =
     each_term (λ (p : ℕ × Component). pos p.1.supply -ℤ pos p.1.demand) 0 (member_count lib) 64 lib.components blank_component (omega arith) right.few_components
     (λ i short. difference_small (get_or lib.components i blank_component).supply (get_or lib.components i blank_component).demand (supplies_small lib right i blank_component short) (demands_small lib right i blank_component short))
-
--- a number that a component gives is small where all are
-at_small : (lib : LibraryParts) (f : Component → ℕ) (c : ℕ) → All (λ x. f x ≤ 10 ^ 12) lib.components → at_component lib f c ≤ 10 ^ 12
-at_small lib f c small = elim (slice_get_cases lib.components c).1 [
-  | inl w ↦ rw w.2 (subst (λ x. f x ≤ 10 ^ 12) w.3 (small c w.0 w.1))
-  | inr w ↦ rw w.1 (omega arith)
-]
 
 -- what edges bring to a component or ask of it, after other terms
 pub with_brought : (lib : LibraryParts) (q : ℕ × Edge → Bool) (k : ℕ) (start after : List Term) → IsLibrary lib → AreTerms (member_count lib) k start

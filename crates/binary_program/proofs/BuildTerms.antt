@@ -1,9 +1,7 @@
 -- Variables and terms of a row, as they are built.
 use Rattle.std.proofs.Common.{◌≡◌, ℕ, ◌+◌, ◌^◌, ◌<◌, ◌≤◌, ℤ, pos, neg_ℤ, ◌-ℤ◌, to_z, of_z, Bool, not, nat_eq, List, [], ◌∷◌, ◌++◌, map, filter, length, get_or, take, refl, sym, ap, subst, ◌∙◌, arith}
 use Rattle.std.specs.Int.{w128}
-use Rattle.std.specs.List.{All, enumerate_from, slice_get}
-use Rattle.std.specs.Option.{option_map_or}
-use Rattle.std.proofs.lemmas.Option.{slice_get_past}
+use Rattle.std.specs.List.{All, enumerate_from}
 use Rattle.std.proofs.lemmas.List.{take_all, length-map, length-append}
 use Rattle.std.proofs.lemmas.Int.{ints}
 use Rattle.std.proofs.lemmas.List.Elements.{All-map, All-filter}
@@ -16,7 +14,8 @@ use Rattle.arch_model.specs.Parts.{LibraryParts}
 use Rattle.arch_model.specs.Library.{IsLibrary}
 use Rattle.arch_model.specs.Member.{member_count}
 use Rattle.arch_model.specs.Pattern.{at_component}
-use Rattle.arch_model.proofs.Ranges.{blank_component, component_ranges}
+use Rattle.arch_model.proofs.Ranges.{blank_component}
+use Rattle.arch_model.proofs.RowReads.{supplies_small, demands_small}
 use Rattle.rows.specs.declared.row.Term.{Term}
 use Rattle.rows.specs.Row.{term}
 use Rattle.rows.specs.BaseRows.{costs_of, member_cost_of, cost_terms}
@@ -106,14 +105,7 @@ costs_all lib v count items all past made =
     let far : length (costs_of lib) ≤ v = omega (arith, length-costs_of lib) in
     made ∙ ap (λ l. map minus_cost (enumerate_from 0 l)) (take_all v (costs_of lib) far)
 
--- supplies and demands are small
-pub supplies_small : (lib : LibraryParts) → IsLibrary lib → All (λ c. c.supply ≤ 10 ^ 12) lib.components
-supplies_small = component_ranges (λ c. c.supply ≤ 10 ^ 12) (λ t i row is. is.supply)
-
-pub demands_small : (lib : LibraryParts) → IsLibrary lib → All (λ c. c.demand ≤ 10 ^ 12) lib.components
-demands_small = component_ranges (λ c. c.demand ≤ 10 ^ 12) (λ t i row is. is.demand)
-
--- a difference of two of them, as the code has it
+-- a difference of two small numbers, as the code has it
 pub difference_is : (m n : ℕ) → m ≤ 10 ^ 12 → n ≤ 10 ^ 12 → to_z w128 (of_z w128 (to_z w128 m -ℤ to_z w128 n)) ≡ pos m -ℤ pos n
 difference_is m n h k = omega (arith, ints)
 
@@ -139,14 +131,6 @@ brought lib p = term p.0 (pos (at_component lib (λ c. c.supply) p.1.tail.0))
 
 abbrev pub asked : LibraryParts → ℕ × Edge → Term
 asked lib p = term p.0 (neg_ℤ (pos (at_component lib (λ c. c.demand) p.1.head.0)))
-
--- a number that a component gives is 0 where there is no such component
-pub at_none : (lib : LibraryParts) (f : Component → ℕ) (xs : List Component) (c : ℕ) → xs ≡ lib.components → length xs ≤ c → 0 ≡ at_component lib f c
-at_none lib f xs c same past = sym (ap (λ l. option_map_or f (slice_get l c) 0) (sym same) ∙ ap (λ o. option_map_or f o 0) (slice_get_past xs c past))
-
--- a fact of all components of a library holds of one that was read
-pub of_read : (P : Component → Type 0) (lib : LibraryParts) (xs : List Component) (c : ℕ) (x : Component) → All P lib.components → xs ≡ lib.components → c < length xs → x ≡ get_or xs c x → P x
-of_read P lib xs c x all same short is = subst P (sym (is ∙ ap (λ l. get_or l c x) same)) (all c x (omega (arith, short, ap length same)))
 
 -- a small number, as the code has it
 pub plain_of : (n : ℕ) → n ≤ 10 ^ 12 → to_z w128 n ≡ pos n

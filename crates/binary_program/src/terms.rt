@@ -10,7 +10,7 @@ ghost use Rattle.rows.specs.BaseRows as base;
 ghost use Rattle.binary_program.specs.Terms as spec;
 
 use arch_model::limits::{COMPONENTS, EDGES, MEMBERS};
-use arch_model::{CompId, Edge, Library, Memory, VarId};
+use arch_model::{CompId, Edge, Library, Memory, VarId, demand, is_instance, supply};
 use rows::{Term, member_cost, variable_count};
 use std::alloc::Global;
 
@@ -48,16 +48,6 @@ pub(crate) fn minus_times(var: VarId, n: u64) -> Term
     Term {
         var,
         coef: -(n as i128),
-    }
-}
-
-// Whether component c is an instance of type t.
-fn is_instance(lib: &Library, t: u32, c: CompId) -> bool
-    ensures { result ≡ pattern.is_instance lib.now t c.0 }
-{
-    match lib.components().get(c.0 as usize) {
-        Some(component) => component.of == t,
-        None => false,
     }
 }
 
@@ -147,28 +137,6 @@ pub(crate) fn balance_terms(alloc: Global, lib: &Library) -> Result<Vec<Term>, M
         })?;
     }
     Ok(terms)
-}
-
-// What component c supplies, in units of supply.
-fn supply(lib: &Library, c: CompId) -> u64
-    ensures value { result ≡ pattern.at_component lib.now (λ c. c.supply) c.0 }
-    ensures small { result ≤ 10 ^ 12 }
-{
-    match lib.components().get(c.0 as usize) {
-        Some(component) => component.supply,
-        None => 0,
-    }
-}
-
-// What component c demands, in units of supply.
-fn demand(lib: &Library, c: CompId) -> u64
-    ensures value { result ≡ pattern.at_component lib.now (λ c. c.demand) c.0 }
-    ensures small { result ≤ 10 ^ 12 }
-{
-    match lib.components().get(c.0 as usize) {
-        Some(component) => component.demand,
-        None => 0,
-    }
 }
 
 /// Appends what the edges into component i bring to it: the supplies of their tails.

@@ -4,7 +4,7 @@ use Rattle.std.specs.Option.{option_map_or}
 use Rattle.std.specs.List.{list_any, filter_map, flat_map, enumerate_from}
 use Rattle.std.specs.Str.{bytes_eq}
 use Rattle.toml.specs.Data.{Data, table}
-use Rattle.arch_model.specs.declared.limits.TheConstants.{COMPONENTS, EDGES}
+use Rattle.arch_model.specs.declared.limits.TheConstants.{COMPONENTS, EDGES, PATTERNS}
 use Rattle.arch_model.specs.Template.{components_of, edges_of}
 use Rattle.lib_read.specs.declared.fault.LibClass.{LibClass}
 use Rattle.lib_read.specs.declared.fault.LibClass.TheVariants.{UnknownKey, MissingKey, WrongKind, BadName, Duplicate, UnknownName, Range, TooMany}
@@ -79,7 +79,7 @@ limit_faults top =
     let components = components_of (types_of top) in
     if nat_lt COMPONENTS (length components) then fault TooMany Library 0 (codes "type") ∷ []
     else if nat_lt EDGES (length (edges_of components (links_of top))) then fault TooMany Library 0 (codes "link") ∷ []
-    else if nat_lt 200 (length (rows_of Patterns top)) then fault TooMany Library 0 (codes "pattern") ∷ []
+    else if nat_lt PATTERNS (length (rows_of Patterns top)) then fault TooMany Library 0 (codes "pattern") ∷ []
     else []
 
 -- the faults of the classes that are judged row by row, whatever the types are called

@@ -14,6 +14,7 @@ use crate::names::Names;
 use crate::passes::judge;
 use crate::rows::{link_rows, pattern_rows, type_rows};
 use crate::values::rows_of;
+use arch_model::limits::PATTERNS;
 use arch_model::{KeyText, Library, Memory};
 use std::alloc::{AllocError, Global};
 use template::{expand, has_few_components, has_few_edges};
@@ -21,9 +22,6 @@ use toml::Value;
 
 /// The greatest number of bytes of a library file.
 pub const LARGEST: usize = 1_048_576;
-
-// The greatest number of patterns.
-const PATTERNS: usize = 200;
 
 // A fault as an answer, with a key of its own.
 fn told(alloc: Global, fault: Fault) -> LibError

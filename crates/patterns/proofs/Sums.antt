@@ -1,9 +1,6 @@
 -- Sums over present components and edges.
-use Rattle.std.proofs.Common.{◌≡◌, ℕ, ◌+◌, ◌^◌, ◌<◌, ◌≤◌, Bool, true, false, cond, ◌&&◌, nat_eq, List, [], ◌∷◌, filter, length, take, get_or, refl, sym, ap, ◌∙◌, arith, sum_by, zero-add, inl, inr}
+use Rattle.std.proofs.Common.{◌≡◌, ℕ, ◌+◌, ◌^◌, ◌<◌, ◌≤◌, Bool, true, false, cond, ◌&&◌, nat_eq, List, [], ◌∷◌, filter, length, take, get_or, refl, sym, ap, ◌∙◌, arith, sum_by, zero-add}
 use mir.Val.{bool_byte}
-use Rattle.std.specs.List.{slice_get}
-use Rattle.std.specs.Option.{option_map_or}
-use Rattle.std.proofs.lemmas.Option.{slice_get_cases, slice_get_past}
 use Rattle.std.proofs.lemmas.List.{take_all}
 use Rattle.std.proofs.lemmas.List.Sums.{sum_by-cons}
 use Rattle.arch_model.specs.declared.template.Component.{Component}
@@ -13,7 +10,8 @@ use Rattle.arch_model.specs.Parts.{LibraryParts, ArchitectureParts}
 use Rattle.arch_model.specs.Library.{IsLibrary}
 use Rattle.arch_model.specs.Architecture.{present, present_edges}
 use Rattle.arch_model.specs.Pattern.{at_component, is_instance, edges_into, edges_out_of, in_degree, out_degree}
-use Rattle.arch_model.proofs.Ranges.{component_ranges, blank_component}
+use Rattle.arch_model.proofs.Ranges.{blank_component}
+use Rattle.arch_model.proofs.RowReads.{supplies_small, demands_small, at_small}
 
 sum_by-filter : {X : Type 0} (f : X → ℕ) (q : X → Bool) (xs : List X) → sum_by f (filter q xs) ≡ sum_by (λ x. cond (q x) (f x) 0) xs
 sum_by-filter f q [] = refl
@@ -72,23 +70,6 @@ demand_out_of_is lib arch i = sym (sum_by-filter (λ (e : Edge). at_component li
 pub whole_sum : {X : Type 0} (f : X → ℕ) (s s' : Set) (xs ys : List X) (i n : ℕ) → length xs ≤ i → xs ≡ ys → s ≡ s' → n ≡ sum_by f (present (has s) (take i xs)) → n ≡ sum_by f (present (has s') ys)
 whole_sum f s s' xs ys i n past same chosen sum = sum ∙ ap (λ l. sum_by f (present (has s) l)) (take_all i xs past ∙ same) ∙ ap (λ t. sum_by f (present (has t) ys)) chosen
 
--- supplies and demands are small
-pub component_supplies : (lib : LibraryParts) → IsLibrary lib → (k : ℕ) (d : Component) → k < length lib.components → (get_or lib.components k d).supply ≤ 10 ^ 12
-component_supplies lib h = component_ranges (λ c. c.supply ≤ 10 ^ 12) (λ t i row is. is.supply) lib h
-
-pub component_demands : (lib : LibraryParts) → IsLibrary lib → (k : ℕ) (d : Component) → k < length lib.components → (get_or lib.components k d).demand ≤ 10 ^ 12
-component_demands lib h = component_ranges (λ c. c.demand ≤ 10 ^ 12) (λ t i row is. is.demand) lib h
-
-at_small : (lib : LibraryParts) (f : Component → ℕ) (c : ℕ) → ((k : ℕ) (d : Component) → k < length lib.components → f (get_or lib.components k d) ≤ 10 ^ 12) → at_component lib f c ≤ 10 ^ 12
-at_small lib f c small = elim (slice_get_cases lib.components c).1 [
-  | inl w ↦ rw w.2 (let low = small c w.0 w.1 in rw w.3 at low)
-  | inr w ↦ rw w.1 (omega arith)
-]
-
--- 0 where there is no such component
-pub at_none : (lib : LibraryParts) (f : Component → ℕ) (xs : List Component) (c : ℕ) → xs ≡ lib.components → length xs ≤ c → 0 ≡ at_component lib f c
-at_none lib f xs c same past = sym (ap (λ l. option_map_or f (slice_get l c) 0) (sym same) ∙ ap (λ o. option_map_or f o 0) (slice_get_past xs c past))
-
 pub one_byte : (b : Bool) → bool_byte b ≡ counted b
 one_byte true = refl
 one_byte false = refl
@@ -102,10 +83,10 @@ where_small true n h = h
 where_small false n h = omega arith
 
 pub brought_small : (lib : LibraryParts) → IsLibrary lib → (i : ℕ) (e : Edge) → brought_by lib i e ≤ 10 ^ 12
-brought_small lib h i e = where_small (nat_eq e.head.0 i) _ (at_small lib (λ c. c.supply) e.tail.0 (component_supplies lib h))
+brought_small lib h i e = where_small (nat_eq e.head.0 i) _ (at_small lib (λ c. c.supply) e.tail.0 (supplies_small lib h))
 
 pub asked_small : (lib : LibraryParts) → IsLibrary lib → (i : ℕ) (e : Edge) → asked_by lib i e ≤ 10 ^ 12
-asked_small lib h i e = where_small (nat_eq e.tail.0 i) _ (at_small lib (λ c. c.demand) e.head.0 (component_demands lib h))
+asked_small lib h i e = where_small (nat_eq e.tail.0 i) _ (at_small lib (λ c. c.demand) e.head.0 (demands_small lib h))
 
 -- what present edges bring to a component, and what they ask of it
 abbrev pub supply_at : LibraryParts → ArchitectureParts → ℕ → ℕ
@@ -116,7 +97,7 @@ demand_at lib arch i = sum_by (λ e. at_component lib (λ c. c.demand) e.head.0)
 
 -- the same of the slice that a library lends
 pub supplies_at : (lib : LibraryParts) (xs : List Component) → IsLibrary lib → xs ≡ lib.components → (k : ℕ) → k < length xs → (get_or xs k blank_component).supply ≤ 10 ^ 12
-supplies_at lib xs h same k short = rw same (component_supplies lib h k blank_component (omega (arith, ap length same)))
+supplies_at lib xs h same k short = rw same (supplies_small lib h k blank_component (omega (arith, ap length same)))
 
 pub demands_at : (lib : LibraryParts) (xs : List Component) → IsLibrary lib → xs ≡ lib.components → (k : ℕ) → k < length xs → (get_or xs k blank_component).demand ≤ 10 ^ 12
-demands_at lib xs h same k short = rw same (component_demands lib h k blank_component (omega (arith, ap length same)))
+demands_at lib xs h same k short = rw same (demands_small lib h k blank_component (omega (arith, ap length same)))

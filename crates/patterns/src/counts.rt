@@ -4,17 +4,7 @@ ghost use Rattle.arch_model.specs.Set.{has};
 ghost use Rattle.arch_model.specs.Architecture.{present_components};
 ghost use Rattle.arch_model.specs.Pattern as spec;
 
-use arch_model::{Architecture, CompId, Library};
-
-// Whether component c is an instance of type t.
-pub(crate) fn is_instance(lib: &Library, t: u32, c: CompId) -> bool
-    ensures { result ≡ spec.is_instance lib.now t c.0 }
-{
-    match lib.components().get(c.0 as usize) {
-        Some(component) => component.of == t,
-        None => false,
-    }
-}
+use arch_model::{Architecture, CompId, Library, is_instance};
 
 // Whether component c is a present instance of type t.
 pub(crate) fn is_present(lib: &Library, arch: &Architecture, t: u32, c: CompId) -> bool

@@ -5,8 +5,8 @@ ghost use Rattle.arch_model.specs.Architecture.{present_edges};
 ghost use Rattle.arch_model.specs.Pattern as spec;
 ghost use Rattle.arch_model.specs.Set as set;
 
-use crate::counts::{is_between, is_instance, is_present};
-use arch_model::{Architecture, CompId, Edge, EdgeId, EdgeSet, Library};
+use crate::counts::{is_between, is_present};
+use arch_model::{Architecture, CompId, Edge, EdgeId, EdgeSet, Library, is_instance};
 
 // Whether an edge leads from an instance of type t to component i.
 fn leads_in(lib: &Library, edge: &Edge, t: u32, i: CompId) -> bool

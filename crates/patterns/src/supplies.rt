@@ -4,27 +4,7 @@ ghost use Rattle.arch_model.specs.Architecture.{present_components};
 ghost use Rattle.arch_model.specs.Pattern as spec;
 
 use crate::counts::is_present;
-use arch_model::{Architecture, CompId, Edge, EdgeId, Library};
-
-// The supply of component c.
-fn supply(lib: &Library, c: CompId) -> u64
-    ensures { result ≡ spec.at_component lib.now (λ c. c.supply) c.0 }
-{
-    match lib.components().get(c.0 as usize) {
-        Some(component) => component.supply,
-        None => 0,
-    }
-}
-
-// The demand of component c.
-fn demand(lib: &Library, c: CompId) -> u64
-    ensures { result ≡ spec.at_component lib.now (λ c. c.demand) c.0 }
-{
-    match lib.components().get(c.0 as usize) {
-        Some(component) => component.demand,
-        None => 0,
-    }
-}
+use arch_model::{Architecture, CompId, Edge, EdgeId, Library, demand, supply};
 
 // What an edge brings to component i.
 fn brought(lib: &Library, edge: &Edge, i: CompId) -> u64

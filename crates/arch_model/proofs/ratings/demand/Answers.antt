@@ -1,6 +1,6 @@
 use Rattle.std.proofs.Common.{◌≤◌, ◌^◌}
-use Rattle.binary_program.proofs.BuildTerms.{demands_small, of_read, at_none}
-use Rattle.binary_program.proofs.terms.demand.Goals as goal
+use Rattle.arch_model.proofs.RowReads.{demands_small, of_read, at_none}
+use Rattle.arch_model.proofs.ratings.demand.Goals as goal
 
 pub returns-in-Some-clause-small : goal.returns-in-Some-clause-small
 returns-in-Some-clause-small c =

@@ -1,6 +1,6 @@
 use Rattle.std.proofs.Common.{◌≤◌, ◌^◌}
-use Rattle.binary_program.proofs.BuildTerms.{supplies_small, of_read, at_none}
-use Rattle.binary_program.proofs.terms.supply.Goals as goal
+use Rattle.arch_model.proofs.RowReads.{supplies_small, of_read, at_none}
+use Rattle.arch_model.proofs.ratings.supply.Goals as goal
 
 pub returns-in-Some-clause-small : goal.returns-in-Some-clause-small
 returns-in-Some-clause-small c =
