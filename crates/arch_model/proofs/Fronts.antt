@@ -10,8 +10,7 @@ use Rattle.arch_model.specs.declared.template.Component.{Component}
 use Rattle.arch_model.specs.declared.template.Edge.{Edge}
 use Rattle.arch_model.specs.declared.library.TypeRow.{TypeRow}
 use Rattle.arch_model.specs.declared.library.LinkRow.{LinkRow}
-use Rattle.arch_model.specs.Template.{instances_of_type, components_of, instances_of, edges_of_link, edges_of}
-use Rattle.arch_model.specs.Expected.{instance_of_type, edge_of, edges_to}
+use Rattle.arch_model.specs.Template.{instances_of_type, components_of, instances_of, edges_of_link, edges_of, instance_of_type, edge_of, edges_to}
 
 -- fronts that each grow by a piece
 abbrev pub Grows : {X : Type 0} → ℕ → (ℕ → List X) → (ℕ → List X) → Type 0

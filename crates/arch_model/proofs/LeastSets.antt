@@ -33,12 +33,12 @@ least_present : (lib : LibraryParts) (arch : ArchitectureParts) → IsArchitectu
 least_present lib arch fits sink members h c among = elim (bool_cases (is_present lib arch c)) [
   | inl here ↦ here
   | inr absent ↦
-    let kept : (v : ℕ) → is_present lib arch v ≡ true → is_in members v ≡ true → is_in (without c members) v ≡ true =
+      let kept : (v : ℕ) → is_present lib arch v ≡ true → is_in members v ≡ true → is_in (without c members) v ≡ true =
       λ v here in_all. is_in-filter (λ e. not (nat_eq e c)) members v
       ∙ and_both (not (nat_eq v c)) (is_in members v)
       (ap not (false_if (nat_eq v c) (λ same. let e : false ≡ true = sym absent ∙ ap (is_present lib arch) (sym (eqb-true v c same)) ∙ here in cc))) in_all in
-    let cuts = parts_more lib arch fits sink (is_in members) (is_in (without c members)) kept ((parts_exact lib arch (is_in members) fits sink).1 h.cuts) in
-    absurd (h.least (is_in (without c members)) (but_one c members among) ((parts_exact lib arch (is_in (without c members)) fits sink).0 cuts))
+      let cuts = parts_more lib arch fits sink (is_in members) (is_in (without c members)) kept ((parts_exact lib arch (is_in members) fits sink).1 h.cuts) in
+      absurd (h.least (is_in (without c members)) (but_one c members among) ((parts_exact lib arch (is_in (without c members)) fits sink).0 cuts))
 ]
 
 pub minimal_least : (lib : LibraryParts) (arch : ArchitectureParts) → IsArchitecture lib arch → (sink : ℕ) (members : List ℕ)

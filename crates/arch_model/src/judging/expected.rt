@@ -1,14 +1,13 @@
 // Whether components and edges are those of types and links: each walk takes from a list what it
 // must begin with.
 ghost use Rattle.std.specs.Prelude.{◌≡◌, ◌↔◌, ◌++◌, List, ◌∷◌, IsTrue, IsSome, IfSome};
-ghost use Rattle.arch_model.specs.Template.{components_of, instances_of_type, instances_of, edges_of, edges_of_link};
-ghost use Rattle.arch_model.specs.Expected.{instance_of_type, edge_of, edges_to};
+ghost use Rattle.arch_model.specs.Template.{components_of, instances_of_type, instances_of, edges_of, edges_of_link, instance_of_type, edge_of, edges_to};
 
 use crate::library::{LinkRow, TypeRow};
 use crate::template::{Component, Edge};
 
 // Whether a component is instance `index` of type number t.
-fn is_instance(component: &Component, t: usize, index: u32, row: &TypeRow) -> bool
+fn is_expected(component: &Component, t: usize, index: u32, row: &TypeRow) -> bool
     ensures { IsTrue result ↔ (component.now ≡ instance_of_type t row.now index) }
 {
     if component.of as usize != t || component.index != index || component.role != row.role {
@@ -32,7 +31,7 @@ fn after_instance<'a>(
 {
     match list.split_first() {
         Some((first, rest)) => {
-            if is_instance(first, t, index, row) {
+            if is_expected(first, t, index, row) {
                 Some(rest)
             } else {
                 None

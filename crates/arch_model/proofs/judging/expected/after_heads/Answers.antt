@@ -1,7 +1,6 @@
 use Rattle.std.proofs.Common.{◌++◌, ◌&&◌, not, nat_eq, cond, [], ◌∷◌, length, take, get_or, ap, sym, ◌∙◌, arith}
 use Rattle.std.proofs.lemmas.List.{take_all}
-use Rattle.arch_model.specs.Template.{instances_of}
-use Rattle.arch_model.specs.Expected.{edge_of, edges_to}
+use Rattle.arch_model.specs.Template.{instances_of, edge_of, edges_to}
 use Rattle.arch_model.proofs.Ranges.{blank_component}
 use Rattle.arch_model.proofs.Fronts.{heads_grow, begins_next, takes_next, passes_over, head_if, no_head_if_other, no_head_if_self}
 use Rattle.arch_model.proofs.judging.expected.after_heads.Goals as goal

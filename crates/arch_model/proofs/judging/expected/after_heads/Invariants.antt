@@ -1,6 +1,5 @@
 use Rattle.std.proofs.Common.{◌≡◌, ◌++◌, take}
-use Rattle.arch_model.specs.Template.{instances_of}
-use Rattle.arch_model.specs.Expected.{edges_to}
+use Rattle.arch_model.specs.Template.{instances_of, edges_to}
 use Rattle.arch_model.proofs.judging.expected.after_heads.Given as goal
 
 abbrev pub invariant-loop-head : goal.invariant-loop-head

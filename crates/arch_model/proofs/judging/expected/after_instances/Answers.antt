@@ -1,6 +1,5 @@
 use Rattle.std.proofs.Common.{◌+◌, [], ◌∷◌}
-use Rattle.arch_model.specs.Template.{instances_of_type}
-use Rattle.arch_model.specs.Expected.{instance_of_type}
+use Rattle.arch_model.specs.Template.{instances_of_type, instance_of_type}
 use Rattle.arch_model.proofs.Fronts.{instances_grow, begins_next, takes_next}
 use Rattle.arch_model.proofs.judging.expected.after_instances.Goals as goal
 

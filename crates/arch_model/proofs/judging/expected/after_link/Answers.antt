@@ -1,7 +1,6 @@
 use Rattle.std.proofs.Common.{◌++◌, nat_eq, cond, [], length, take, get_or, ap, sym, ◌∙◌, arith}
 use Rattle.std.proofs.lemmas.List.{take_all}
-use Rattle.arch_model.specs.Template.{instances_of}
-use Rattle.arch_model.specs.Expected.{edges_to}
+use Rattle.arch_model.specs.Template.{instances_of, edges_to}
 use Rattle.arch_model.proofs.Ranges.{blank_component}
 use Rattle.arch_model.proofs.Fronts.{edges_from, tails_grow, begins_next, takes_next, passes_over, chosen_if, left_out_if}
 use Rattle.arch_model.proofs.judging.expected.after_link.Goals as goal
