@@ -12,7 +12,7 @@ abbrev pub number : ℤ → ℕ
 number (pos n) = n
 number (negsuc n) = 0
 
--- the number at a key, and the one that stands for an absent one
+-- the number at a key: none where there is none
 abbrev pub number_at : List ℕ → Data → Option ℕ
 number_at key row = option_map number (integer_at key row)
 

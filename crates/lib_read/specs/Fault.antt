@@ -11,7 +11,7 @@ use Rattle.lib_read.specs.declared.fault.TableName.{TableName}
 use Rattle.lib_read.specs.declared.fault.TableName.TheVariants.{Library, Types, Links, Patterns, Requires}
 use Rattle.lib_read.specs.declared.fault.LibFault.{LibFault}
 
--- the order of the classes, and of the tables
+-- the place of a class in the order of faults
 abbrev pub class_rank : LibClass → ℕ
 class_rank TooLarge = 1
 class_rank NotToml = 2

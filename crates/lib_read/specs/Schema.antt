@@ -99,7 +99,7 @@ any_keys =
     ∷ (takes (codes "to") Text
     ∷ (takes (codes "type") Text ∷ [])))))))
 
--- the role that a text is, and the kind of pattern
+-- the role that a text names
 abbrev pub role_of : List ℕ → Option Role
 role_of text =
     if bytes_eq text (codes "source") then Some Source

@@ -1,7 +1,7 @@
 -- What is told of a file or a sink: its bytes, or nothing where a real file or terminal is behind it.
 use Rattle.std.specs.Prelude.{◌≡◌, ◌≢◌, ℕ, ◌-◌, ◌<◌, ◌≤◌, Option, None, Some, List, ◌++◌, length, take, drop, IfSome}
 
--- what a read of n bytes from place on left in a buffer, where the file's bytes are told: the n bytes that stand there, and 0 only at the end
+-- what a read of n bytes from place on left in a buffer, where the file's bytes are told: the n bytes that stand there, and, where the buffer has room, 0 only at the end
 abbrev pub Finds : Option (List ℕ) → ℕ → List ℕ → ℕ → Type 0
 Finds told place into n = IfSome told (λ bytes. (n ≤ length bytes - place) × (take n into ≡ take n (drop place bytes)) × (n ≡ 0 → 0 < length into → length bytes ≤ place))
 

@@ -1,4 +1,4 @@
--- Steps of a search over rows of successors.
+-- For the code's own contracts: steps of a search over rows of successors.
 use Rattle.std.specs.Prelude.{ℕ, ◌+◌, Bool, false, ◌&&◌, not, nat_eq, List, slice_get}
 use Rattle.std.specs.List.{list_any, range_with_len}
 use Rattle.std.specs.Option.{option_map_or, unwrap_or}

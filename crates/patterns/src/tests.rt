@@ -160,6 +160,7 @@ fn degrees_are_judged(rt: HostRuntime) -> Result<(), Fail> {
     };
     expect(&rt, &lib, &two_into_c, &[1, 2, 3], &[2, 3], true);
     expect(&rt, &lib, &two_into_c, &[], &[], true);
+    expect(&rt, &lib, &two_into_c, &[1, 3], &[2], false);
     expect(&rt, &lib, &two_into_c, &[0, 1, 3], &[2, 4], false);
     let one_from_a = Pattern::OutDegree {
         of: 0,
@@ -167,6 +168,7 @@ fn degrees_are_judged(rt: HostRuntime) -> Result<(), Fail> {
         min: 0,
         max: Some(1),
     };
+    expect(&rt, &lib, &one_from_a, &[0, 1], &[0], true);
     expect(&rt, &lib, &one_from_a, &[0, 1, 3], &[0, 4], true);
     expect(&rt, &lib, &one_from_a, &[0, 1, 2], &[0, 1], false);
     let b_goes_on = Pattern::InNeedsOut {
@@ -196,6 +198,7 @@ fn supplies_are_judged(rt: HostRuntime) -> Result<(), Fail> {
     expect(&rt, &lib, &supplied, &[0, 1], &[], true);
     expect(&rt, &lib, &supplied, &[0, 3], &[], false);
     let b_supplied = Pattern::LocalSupply { of: 1 };
+    expect(&rt, &lib, &b_supplied, &[0, 1], &[0], true);
     expect(&rt, &lib, &b_supplied, &[0, 1, 3], &[0, 4], true);
     expect(&rt, &lib, &b_supplied, &[0, 1, 3], &[0, 2], false);
     Ok(())

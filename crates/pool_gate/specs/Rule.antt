@@ -31,6 +31,7 @@ module _ {V A : Type 0} (about : V → A) (count : V → ℕ) where
     pub seen_is : view.seen ≡ half
     pub nobody_else : (i : ℕ) (v : SeatView A) → Sits topic s.views i v → v.in_turn ≡ true → i ≡ holder
 
+  -- between any two steps: the seats' numbers, topics and counts fit together, and the value is at home or with exactly one seat
   pub record Between (s : State (Option V) (SeatView A)) : Type 0 where
     -- what the value is about, and half of the word, rounded down
     pub topic : A
