@@ -1,5 +1,6 @@
 // Which variable a row forces.
-ghost use Rattle.std.specs.Prelude.{◌≡◌, ℕ, ◌≤◌, ◌^◌, pos, ◌-ℤ◌, false, unsigned_abs, option_map, IfSome, IfNone, IsTrue};
+ghost use Rattle.std.specs.Prelude.{◌≡◌, ℕ, ◌≤◌, ◌^◌, pos, ◌-ℤ◌, false, unsigned_abs};
+ghost use Rattle.std.specs.Prelude.{option_map, IfSome, IfNone, IsTrue};
 ghost use Rattle.rows.specs.Row.{IsSized, row_of_cut};
 ghost use Rattle.rows.specs.Activity.{is_refuted, ForcesNothing, least_forced, IsLeastForced};
 ghost use Rattle.rows.specs.Room.{forced_value, room_of, number_of};
@@ -126,7 +127,8 @@ pub fn forces_of_cost(lib: &Library, bound: u64, cube: &Cube) -> Option<(VarId, 
 /// is once the variable has the other value.
 pub fn forces(known: &Known, r: RowRef, cube: &Cube) -> Option<(VarId, bool)>
     requires { IsTrue (has_row (parts_of known.now) r) }
-    ensures first { IfSome (row_at (parts_of known.now) r) (λ row. option_map number_of result ≡ least_forced row cube.now) }
+    ensures first { IfSome (row_at (parts_of known.now) r)
+        (λ row. option_map number_of result ≡ least_forced row cube.now) }
     ensures least { IfSome (row_at (parts_of known.now) r)
         (λ row. IfSome result (λ p. IsLeastForced row cube.now p.0.0 p.1)) }
     ensures none { IfSome (row_at (parts_of known.now) r) (λ row. IfNone result (ForcesNothing row cube.now)) }
