@@ -84,7 +84,7 @@ module _ (problem : ProblemParts) (cube : CubeParts) (is : IsProblem problem) (f
       (recursion_from_All (IsRowBelow (member_count problem.library)) problem.base is.variables) stands))
 
   pub full_keeps_ends : IsLibrary problem.library → KeepsEnds problem.library (has cube.ones)
-  full_keeps_ends right = vector_keeps_ends problem.library candidate_of.0 (has cube.ones) right candidate_of.1 candidate_of.2.architecture
+  full_keeps_ends right = vector_keeps_ends problem.library candidate_of.0 (has cube.ones) right candidate_of.1 candidate_of.2.meets.architecture
 
 -- the architecture of a cube is the one that lies in it
 pub vector_of_cube : (lib : LibraryParts) (arch : ArchitectureParts) (cube : CubeParts) → IsCubeOf lib arch cube → IsVectorOf lib arch (has cube.ones)
@@ -99,7 +99,7 @@ pub found_candidate : (problem : ProblemParts) (cube : CubeParts) (arch : Archit
     → IsArchitecture problem.library arch → IsVectorOf problem.library arch (has cube.ones) → IsCandidate problem.library arch
 found_candidate problem cube arch is fixed stands fits vector =
     let some = candidate_of problem cube is fixed stands in
-    let same : some.0 ≡ arch = same_architecture problem.library some.0 arch some.2.architecture fits (λ v short. sym (some.1 v short) ∙ vector v short) in
+    let same : some.0 ≡ arch = same_architecture problem.library some.0 arch some.2.meets.architecture fits (λ v short. sym (some.1 v short) ∙ vector v short) in
     let P : ArchitectureParts → Type 0 = IsCandidate problem.library in
     subst P same some.2
 

@@ -4,12 +4,13 @@ use Rattle.std.specs.List.{All}
 use Rattle.std.specs.Prelude.{IsTrue, ◌≤◌}
 use Rattle.arch_model.specs.Set.{has}
 use Rattle.arch_model.specs.declared.library.Requirement.{Requirement}
+use Rattle.arch_model.specs.Admissible.{MeetsPatterns}
 use Rattle.arch_model.specs.Parts.{LibraryParts, ArchitectureParts}
 use Rattle.arch_model.specs.Architecture.{cost_of}
 use Rattle.rows.specs.Problem.{IsCandidate}
 use Rattle.lib_read.specs.LibraryOf.{library_of}
 use Rattle.lib_read.proofs.Unrequired.{no_requirements}
-use Rattle.archex_app.specs.Cheapest.{MeetsPatterns, IsCheapest}
+use Rattle.archex_app.specs.Cheapest.{IsCheapest}
 use Rattle.archex_app.specs.declared.search.Found.{Found}
 use Rattle.archex_app.specs.Search.{IsFound}
 
@@ -18,12 +19,12 @@ none_required : (arch : ArchitectureParts) (rs : List Requirement) → rs ≡ []
 none_required arch rs e = let P : List Requirement → Type 0 = All (λ r. IsTrue (has arch.comps r.sink.0)) in subst P (sym e) (λ k d short. absurd (omega arith))
 
 candidate_if : (bytes : List ℕ) (lib : LibraryParts) (arch : ArchitectureParts) → library_of bytes ≡ Ok lib → MeetsPatterns lib arch → IsCandidate lib arch
-candidate_if bytes lib arch read meets = record { architecture = meets.architecture; patterns = meets.patterns; sinks = none_required arch lib.requirements (no_requirements bytes lib read) }
+candidate_if bytes lib arch read meets = record { meets = meets; sinks = none_required arch lib.requirements (no_requirements bytes lib read) }
 
 -- what is found is a cheapest architecture
 pub found_is_cheapest : (bytes : List ℕ) (lib : LibraryParts) (found : Found) → library_of bytes ≡ Ok lib → IsFound lib found → ((arch : ArchitectureParts) → IsCandidate lib arch → found.cost ≤ cost_of lib arch) → IsCheapest lib found.architecture
 found_is_cheapest bytes lib found read is least = record {
-  meets = record { architecture = is.candidate.architecture; patterns = is.candidate.patterns };
+  meets = is.candidate.meets;
   least = λ other meets. let le : found.cost ≤ cost_of lib other = least other (candidate_if bytes lib other read meets) in omega (arith, le, is.cost);
 }
 

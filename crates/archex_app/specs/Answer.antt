@@ -1,11 +1,12 @@
 -- What a run answers: which bytes it read, which text it printed, and what that says.
 use Rattle.std.specs.Prelude.{◌≡◌, ℕ, Option, List, ◌++◌, ◌⊎◌, Ok, Err, IfSome}
+use Rattle.arch_model.specs.Admissible.{MeetsPatterns}
 use Rattle.arch_model.specs.Parts.{LibraryParts, ArchitectureParts}
 use Rattle.outside.specs.Faults.{Rose}
 use Rattle.outside.specs.Told.{Appends}
 use Rattle.lib_read.specs.LibraryOf.{library_of}
 use Rattle.archex_app.specs.Words.{AskToSolve, RefusesWords}
-use Rattle.archex_app.specs.Cheapest.{MeetsPatterns, IsCheapest}
+use Rattle.archex_app.specs.Cheapest.{IsCheapest}
 use Rattle.archex_app.specs.Report.{optimal_text, infeasible_text}
 use Rattle.archex_app.specs.Refusal.{refused_library_text}
 use Rattle.lib_read.specs.declared.fault.LibFault.{LibFault}

@@ -1,10 +1,10 @@
 -- Which status always comes, where no call of the outside failed.
 use Rattle.std.specs.Prelude.{◌≡◌, ℕ, List, ◌⊎◌, MatchResult}
+use Rattle.arch_model.specs.Admissible.{MeetsPatterns}
 use Rattle.arch_model.specs.Parts.{LibraryParts, ArchitectureParts}
 use Rattle.lib_read.specs.LibraryOf.{library_of}
 use Rattle.archex_app.specs.declared.status.Status.{Status}
 use Rattle.archex_app.specs.declared.status.TheConstants as constants
-use Rattle.archex_app.specs.Cheapest.{MeetsPatterns}
 
 -- a library that was read is solved, unless there was no memory: Optimal where an architecture meets its patterns, Infeasible where none does
 pub record Solves (lib : LibraryParts) (status : Status) : Type 0 where

@@ -24,12 +24,11 @@ fn run_on(
     words: &[&str],
     library: &[u8],
     failing_calls: &[u64],
-    failing_writes: &[u64],
 ) -> Result<(Status, Vec<u8>), AllocError> {
     let words = words_of(alloc, words)?;
     let mut shelf = MemShelf::new(alloc, 0, failing_calls)?;
     shelf.put("x.toml", library)?;
-    let mut sink = MemSink::new(alloc, 4096, failing_writes)?;
+    let mut sink = MemSink::new(alloc, 4096, &[])?;
     let status = run_plain(alloc, words.as_slice(), &mut shelf, &mut sink);
     let printed = sink.bytes().to_vec(alloc)?;
     Ok((status, printed))
@@ -56,7 +55,7 @@ pattern = [{kind = \"count\", type = \"p\", min = 40}]
         (too_few, Status::INFEASIBLE, b"status infeasible\n"),
     ];
     for (library, status, text) in rows {
-        let (ended, printed) = run_on(rt.alloc(), &["solve", "x.toml"], library, &[], &[])?;
+        let (ended, printed) = run_on(rt.alloc(), &["solve", "x.toml"], library, &[])?;
         assert_eq!(rt; ended, status);
         assert_eq!(rt; printed.as_slice(), text);
     }
@@ -73,7 +72,7 @@ pattern = [{kind = \"count\", type = \"p\", min = 40}]
         ),
     ];
     for (library, front) in fronts {
-        let (ended, printed) = run_on(rt.alloc(), &["solve", "x.toml"], library, &[], &[])?;
+        let (ended, printed) = run_on(rt.alloc(), &["solve", "x.toml"], library, &[])?;
         assert_eq!(rt; ended, Status::OPTIMAL);
         assert!(rt; printed.as_slice().starts_with(front));
     }
@@ -145,7 +144,7 @@ pattern = [
         ),
     ];
     for (library, cost, choices) in rows {
-        let (ended, printed) = run_on(rt.alloc(), &["solve", "x.toml"], library, &[], &[])?;
+        let (ended, printed) = run_on(rt.alloc(), &["solve", "x.toml"], library, &[])?;
         assert_eq!(rt; ended, Status::OPTIMAL);
         let mut found = false;
         for choice in choices {
@@ -226,7 +225,7 @@ min = 2";
             library.extend_from_slice(further)?;
         }
         let words = &["solve", "x.toml"];
-        let (_, printed) = run_on(alloc, words, library.as_slice(), &[], &[])?;
+        let (_, printed) = run_on(alloc, words, library.as_slice(), &[])?;
         assert!(rt; printed.as_slice().starts_with(front));
     }
     Ok(())
@@ -288,7 +287,7 @@ link = [{from = \"a\", to = \"b\"}, {from = \"a\", to = \"b\"}]",
         ),
     ];
     let refused_as = |library: &[u8], fault: &[u8]| -> Result<bool, AllocError> {
-        let (ended, printed) = run_on(alloc, &["solve", "x.toml"], library, &[], &[])?;
+        let (ended, printed) = run_on(alloc, &["solve", "x.toml"], library, &[])?;
         let mut line = b"refused library ".to_vec(alloc)?;
         line.extend_from_slice(fault)?;
         line.push(b'\n')?;
@@ -309,7 +308,7 @@ fn too_large_a_file_is_refused(rt: HostRuntime) -> Result<(), Fail> {
     for size in [1048577, 1048600] {
         let library = vec![in rt.alloc(); b'#'; size]?;
         let words = &["solve", "x.toml"];
-        let (ended, printed) = run_on(rt.alloc(), words, library.as_slice(), &[], &[])?;
+        let (ended, printed) = run_on(rt.alloc(), words, library.as_slice(), &[])?;
         assert_eq!(rt; ended, Status::REFUSED_LIBRARY);
         assert_eq!(rt;
             printed.as_slice(),
@@ -334,7 +333,7 @@ fn other_words_are_refused(rt: HostRuntime) -> Result<(), Fail> {
         (&["--help"], b"refused words 1\n"),
     ];
     for (words, text) in rows {
-        let (ended, printed) = run_on(rt.alloc(), words, X, &[], &[])?;
+        let (ended, printed) = run_on(rt.alloc(), words, X, &[])?;
         assert_eq!(rt; ended, Status::REFUSED_WORDS);
         assert_eq!(rt; printed.as_slice(), text);
     }
@@ -347,7 +346,7 @@ fn other_words_are_refused(rt: HostRuntime) -> Result<(), Fail> {
 #[test]
 fn each_failing_read_ends_the_run(rt: HostRuntime) -> Result<(), Fail> {
     for call in 0..3 {
-        let (ended, printed) = run_on(rt.alloc(), &["solve", "x.toml"], X, &[call], &[])?;
+        let (ended, printed) = run_on(rt.alloc(), &["solve", "x.toml"], X, &[call])?;
         if call < 2 {
             assert_eq!(rt; ended, Status::READ_FAULT);
             assert_eq!(rt; printed.len(), 0);
@@ -356,7 +355,7 @@ fn each_failing_read_ends_the_run(rt: HostRuntime) -> Result<(), Fail> {
             assert_eq!(rt; printed.as_slice(), X_REPORT);
         }
     }
-    let (ended, printed) = run_on(rt.alloc(), &["solve", "y.toml"], X, &[], &[])?;
+    let (ended, printed) = run_on(rt.alloc(), &["solve", "y.toml"], X, &[])?;
     assert_eq!(rt; ended, Status::READ_FAULT);
     assert_eq!(rt; printed.len(), 0);
     Ok(())

@@ -1,34 +1,14 @@
 -- Collected terms make a row.
-use Rattle.std.proofs.Common.{◌≡◌, ◌≢◌, ℕ, zero, suc, ◌+◌, ◌*◌, ◌^◌, ◌≤◌, ◌<◌, ℤ, pos, negsuc, unsigned_abs, Bool, true, false, List, [], ◌∷◌, map, filter, length, get_or, to_z, of_z, refl, sym, ap, subst, ◌∙◌, arith}
+use Rattle.std.proofs.Common.{◌≡◌, ◌≢◌, ℕ, zero, suc, ◌*◌, ◌^◌, ◌≤◌, ◌<◌, ℤ, pos, negsuc, unsigned_abs, true, false, List, map, length, get_or, to_z, of_z, sym, ap, subst, ◌∙◌, arith}
 use Rattle.std.specs.Int.{w128}
 use Rattle.std.specs.List.{All, enumerate_from, range_with_len}
-use Rattle.std.specs.List.Sorted.{IsStrictlyIncreasing}
 use Rattle.std.proofs.lemmas.List.Elements.{All-map, All-filter, All-weaker, All-from_get_or, filter_passes}
-use Rattle.std.proofs.lemmas.List.FromFn.{length-range_with_len, get_or-range_with_len, length-enumerate_from, get_or-enumerate_from}
-use Rattle.std.proofs.lemmas.List.Kept.{IsStrictlyIncreasing-filter}
+use Rattle.std.proofs.lemmas.List.FromFn.{length-enumerate_from, get_or-enumerate_from}
 use Rattle.rows.specs.declared.row.Term.{Term}
 use Rattle.rows.specs.Row.{IsRow, IsSized, row_of, row_parts, term, coef_at, is_nonzero, collected}
 use Rattle.rows.proofs.Activities.{plain}
-use Rattle.rows.proofs.WhatIsForced.{collected_is}
+use Rattle.rows.proofs.Ascending.{collected_ascend}
 use Rattle.binary_program.proofs.BuildSums.{nonzero, nonzero_collected}
-
--- the variables of collected terms ascend
-range_rises : (n : ℕ) → IsStrictlyIncreasing (range_with_len 0 n)
-range_rises n k short =
-    let after : k + 1 < n = omega (arith, short, length-range_with_len 0 n) in
-    let here : k < n = omega arith in
-    omega (arith, get_or-range_with_len 0 n k 0 here, get_or-range_with_len 0 n (k + 1) 0 after)
-
-own_vars : (coef : ℕ → ℤ) (vs : List ℕ) → map (λ t. t.var.0) (map (λ v. term v (coef v)) vs) ≡ vs
-own_vars coef [] = refl
-own_vars coef (v ∷ vs) = ap (λ l. v ∷ l) (own_vars coef vs)
-
-ascending : (n : ℕ) (terms : List Term) → IsStrictlyIncreasing (map (λ t. t.var.0) (collected n terms))
-ascending n terms =
-    let q : ℕ → Bool = λ v. is_nonzero (coef_at terms v) in
-    subst IsStrictlyIncreasing
-    (sym (ap (map (λ (t : Term). t.var.0)) (collected_is n terms) ∙ own_vars (coef_at terms) (filter q (range_with_len 0 n))))
-    (IsStrictlyIncreasing-filter q (range_with_len 0 n) (range_rises n))
 
 -- none is 0
 not_zero : (a : ℤ) → is_nonzero a ≡ true → a ≢ pos 0
@@ -65,7 +45,7 @@ module _ (n : ℕ) (terms : List Term) (coefs lent : List ℤ) (items : List Ter
 
   pub is_row : IsRow (row_parts items (to_z w128 (of_z w128 least)))
   is_row = subst IsRow (sym made_row) (record {
-    ascending = ascending n terms;
+    ascending = collected_ascend n terms;
     nonzero = none_zero n terms;
     sized = subst (All (λ (t : Term). IsSized t.coef)) (nonzero_collected n terms coefs long value) (nonzero_sized coefs small);
     least = sized;

@@ -107,14 +107,13 @@ decides lib right = record {
           some.0,
           some.1,
           record {
-            architecture = some.2;
-            patterns = (patterns_say lib right some.0 some.2 x some.1).0 split.1.1;
+            meets = record { architecture = some.2; patterns = (patterns_say lib right some.0 some.2 x some.1).0 split.1.1 };
             sinks = (sinks_say lib right some.0 some.2 x some.1).0 split.1.0;
           },
         )),
     (λ some. (parts lib (λ row. RowHolds row x)).1 (
-      (edge_rows_say lib x right).1 (some.0, some.1, some.2.architecture),
-      ((sinks_say lib right some.0 some.2.architecture x some.1).1 some.2.sinks, (patterns_say lib right some.0 some.2.architecture x some.1).1 some.2.patterns),
+      (edge_rows_say lib x right).1 (some.0, some.1, some.2.meets.architecture),
+      ((sinks_say lib right some.0 some.2.meets.architecture x some.1).1 some.2.sinks, (patterns_say lib right some.0 some.2.meets.architecture x some.1).1 some.2.meets.patterns),
     )),
   );
 }

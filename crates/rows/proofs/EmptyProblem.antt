@@ -21,13 +21,15 @@ nothing = record { comps = empty; edges = empty }
 candidate : (lib : LibraryParts) → lib.edges ≡ [] → lib.patterns ≡ [] → lib.requirements ≡ [] → IsCandidate lib nothing
 unfolding nothing
 candidate lib edges patterns requirements = record {
-  architecture = record {
-    comps = λ c h. absurd (no_member c h);
-    edges = λ e h. absurd (no_member e h);
-    tails = all_none (λ e. IsTrue (has empty e.tail.0)) _ (ap (λ (l : List Edge). present (has empty) l) edges);
-    heads = all_none (λ e. IsTrue (has empty e.head.0)) _ (ap (λ (l : List Edge). present (has empty) l) edges);
+  meets = record {
+    architecture = record {
+      comps = λ c h. absurd (no_member c h);
+      edges = λ e h. absurd (no_member e h);
+      tails = all_none (λ e. IsTrue (has empty e.tail.0)) _ (ap (λ (l : List Edge). present (has empty) l) edges);
+      heads = all_none (λ e. IsTrue (has empty e.head.0)) _ (ap (λ (l : List Edge). present (has empty) l) edges);
+    };
+    patterns = all_none (MeetsPattern lib nothing) lib.patterns patterns;
   };
-  patterns = all_none (MeetsPattern lib nothing) lib.patterns patterns;
   sinks = all_none (λ r. IsTrue (has empty r.sink.0)) lib.requirements requirements;
 }
 

@@ -1,22 +1,19 @@
 -- The least variable that a row forces is what its relation says.
-use Rattle.std.proofs.Common.{◌≡◌, ℕ, ◌<◌, ◌≤◌, ℤ, pos, neg_ℤ, ◌≤ℤ◌, int_lt, Bool, true, false, cond, not, ◌&&◌, List, [], ◌∷◌, map, find, Option, Some, None, option_map, refl, sym, ap, ◌∙◌, arith, inl, inr, if◌then◌else◌}
+use Rattle.std.proofs.Common.{◌≡◌, ℕ, ◌<◌, ◌≤◌, ℤ, pos, neg_ℤ, ◌≤ℤ◌, int_lt, Bool, true, false, cond, not, ◌&&◌, List, [], ◌∷◌, map, find, Option, Some, None, IfSome, IfNone, option_map, refl, sym, ap, subst, ◌∙◌, arith, inl, inr, if◌then◌else◌}
 use Rattle.std.specs.Prelude.{◌↔◌}
 use Rattle.std.specs.List.Sorted.{IsStrictlyIncreasing}
 use Rattle.std.proofs.lemmas.Int.{ints}
-use Rattle.std.proofs.lemmas.Bool.Decides.{eqb_tells}
+use Rattle.arch_model.specs.declared.sets.VarId.{VarId}
 use Rattle.arch_model.proofs.Members.{and_left, and_right, and_both, bool_cases}
 use Rattle.rows.specs.declared.row.Term.{Term}
 use Rattle.rows.specs.Parts.{RowParts, CubeParts}
 use Rattle.rows.specs.Row.{coef_at}
 use Rattle.rows.specs.Cube.{IsCube, is_free, fixed_at}
-use Rattle.rows.specs.Activity.{is_refuted, Forces, forces, least_forced, IsLeastForced, room_of}
-use Rattle.rows.proofs.WhatIsForced.{After, Rising, rising_from, coef_after, coef_tail, forces_one, forces_zero, forces_any, idle_at_zero, refuted_none, room_is_some}
+use Rattle.rows.specs.Activity.{is_refuted, Forces, forces, ForcesNothing, least_forced, IsLeastForced}
+use Rattle.rows.specs.Room.{room_of, number_of}
+use Rattle.rows.proofs.WhatIsForced.{Rising, rising_from, Apart, apart_after, apart_is_idle, forces_one, forces_zero, forces_any, room_is_some}
 
--- a search among ascending variables finds the least, and finds one where there is one
-after_less : (v w : ℕ) (terms : List Term) → v < w → After w terms → After v terms
-after_less v w [] less all = tt
-after_less v w (t ∷ terms) less all = let here : v < t.var.0 = omega (arith, all.0) in (here, after_less v w terms less all.1)
-
+-- what a search among the terms' variables passes over isn't forced
 abbrev found : (ℕ → Bool) → List Term → Option ℕ
 found p terms = find p (map (λ t. t.var.0) terms)
 
@@ -33,27 +30,26 @@ found_passes p (t ∷ terms) v e = elim (bool_cases (p t.var.0)) [
   | inr off ↦ found_passes p terms v (sym (found_step p t terms false off) ∙ e)
 ]
 
-found_is_least : (p : ℕ → Bool) (terms : List Term) (v w : ℕ) → Rising terms → found p terms ≡ Some v → p w ≡ true → (coef_at terms w ≡ pos 0 → ⊥) → v ≤ w
-found_is_least p [] v w rising e on some = absurd (some refl)
-found_is_least p (t ∷ terms) v w rising e on some = elim (bool_cases (p t.var.0)) [
-  | inl here ↦
-      let same : t.var.0 ≡ v = same_some t.var.0 v (sym (found_step p t terms true here) ∙ e) in
-      let not_before : w < t.var.0 → ⊥ = λ less. some (coef_after (t ∷ terms) w (less, after_less w t.var.0 terms less rising.0)) in
-      omega (arith, same, not_before)
-  | inr off ↦ elim (eqb_tells t.var.0 w) [
-    | inl same ↦ absurd (let f : false ≡ true = sym off ∙ ap p same.1 ∙ on in cc)
-    | inr other ↦ found_is_least p terms v w rising.1 (sym (found_step p t terms false off) ∙ e) on (λ none. some (coef_tail t terms w other.1 ∙ none))
-  ]
-]
-
-none_found : (p : ℕ → Bool) (terms : List Term) (w : ℕ) → found p terms ≡ None → p w ≡ true → coef_at terms w ≡ pos 0
-none_found p [] w e on = refl
+none_found : (p : ℕ → Bool) (terms : List Term) (w : ℕ) → found p terms ≡ None → p w ≡ true → Apart w terms
+none_found p [] w e on = tt
 none_found p (t ∷ terms) w e on = elim (bool_cases (p t.var.0)) [
   | inl here ↦ absurd (let f : Some t.var.0 ≡ None = sym (found_step p t terms true here) ∙ e in cc)
-  | inr off ↦ elim (eqb_tells t.var.0 w) [
-    | inl same ↦ absurd (let f : false ≡ true = sym off ∙ ap p same.1 ∙ on in cc)
-    | inr other ↦ coef_tail t terms w other.1 ∙ none_found p terms w (sym (found_step p t terms false off) ∙ e) on
-  ]
+  | inr off ↦
+      let rest : found p terms ≡ None = sym (found_step p t terms false off) ∙ e in
+      ((λ same. let f : false ≡ true = sym off ∙ ap p (sym same) ∙ on in cc), none_found p terms w rest on)
+]
+
+-- and where they ascend, what it finds is the least
+none_before : (p : ℕ → Bool) (terms : List Term) (v w : ℕ) → Rising terms → found p terms ≡ Some v → p w ≡ true → w < v → Apart w terms
+none_before p [] v w rising e on less = tt
+none_before p (t ∷ terms) v w rising e on less = elim (bool_cases (p t.var.0)) [
+  | inl here ↦
+      let same : t.var.0 ≡ v = same_some t.var.0 v (sym (found_step p t terms true here) ∙ e) in
+      let le : w ≤ t.var.0 = omega (arith, same, less) in
+      ((λ f. absurd (omega (arith, same, less, f))), apart_after w t.var.0 terms le rising.0)
+  | inr off ↦
+      let rest : found p terms ≡ Some v = sym (found_step p t terms false off) ∙ e in
+      ((λ same. let f : false ≡ true = sym off ∙ ap p (sym same) ∙ on in cc), none_before p terms v w rising.1 rest on less)
 ]
 
 -- the test of forcing is its relation
@@ -110,16 +106,22 @@ one_way_by free room a up h =
       and_false true = refl
       and_false false = refl
 
-module _ (row : RowParts) (cube : CubeParts) (ascending : IsStrictlyIncreasing (map (λ (t : Term). t.var.0) row.terms)) (k : IsCube cube) where
-  has_coef : (w : ℕ) → is_refuted row cube ≡ false → forces_any row cube w ≡ true → coef_at row.terms w ≡ pos 0 → ⊥
-  has_coef w stands any none = let e : false ≡ true = sym (idle_at_zero row cube w (rising_from row.terms ascending) k stands none) ∙ any in cc
+module _ (row : RowParts) (cube : CubeParts) where
+  -- where the search finds none, the row forces nothing
+  unmapped : (o : Option ℕ) → option_map {U = ℕ × Bool} (λ w. (w, forces row cube w true)) o ≡ None → o ≡ None
+  unmapped None e = refl
+  unmapped (Some w) e = absurd (some_pair (w, forces row cube w true) e) where
+    some_pair : (p : ℕ × Bool) → Some p ≡ None → ⊥
+    some_pair p e = cc
 
-  stands_if : (o : Option (ℕ × Bool)) (p : ℕ × Bool) → least_forced row cube ≡ o → o ≡ Some p → is_refuted row cube ≡ false
-  stands_if o p e s = elim (bool_cases (is_refuted row cube)) [
-    | inl refuted ↦ absurd (let f : None ≡ Some p = refuted_none row cube refuted ∙ e ∙ s in cc)
-    | inr stands ↦ stands
-  ]
+  any_of : (v : ℕ) (b : Bool) → Forces row cube v b → forces_any row cube v ≡ true
+  any_of v b forced = any_from row cube v b (test_from_forces row cube v b forced)
 
+  pub nothing_to : least_forced row cube ≡ None → ForcesNothing row cube
+  nothing_to none v b forced =
+      apart_is_idle row cube v b (none_found (forces_any row cube) row.terms v (unmapped (found (forces_any row cube) row.terms) none) (any_of v b forced)) forced
+
+  -- what it finds is forced
   split : (o : Option ℕ) (f : ℕ → Bool) (v : ℕ) (b : Bool) → option_map {U = ℕ × Bool} (λ w. (w, f w)) o ≡ Some (v, b) → (o ≡ Some v) × (f v ≡ b)
   split None f v b e = absurd (let g : None ≡ Some (v, b) = e in cc)
   split (Some w) f v b e =
@@ -129,56 +131,65 @@ module _ (row : RowParts) (cube : CubeParts) (ascending : IsStrictlyIncreasing (
         same_pair : (p q : ℕ × Bool) → Some p ≡ Some q → p ≡ q
         same_pair p q e = cc
 
-  pub least_forced_to : (v : ℕ) (b : Bool) → least_forced row cube ≡ Some (v, b) → IsLeastForced row cube v b
-  least_forced_to v b e =
-      let stands = stands_if (Some (v, b)) (v, b) e refl in
-      let at = split (found (forces_any row cube) row.terms) (λ w. forces row cube w true) v b e in
-      let any = found_passes (forces_any row cube) row.terms v at.0 in
-      record {
-        forced = forces_from_test row cube v b (value_from row cube v b any at.1);
-        least = λ w c forced.
-            let w_any = any_from row cube w c (test_from_forces row cube w c forced) in
-            found_is_least (forces_any row cube) row.terms v w (rising_from row.terms ascending) at.0 w_any (has_coef w stands w_any);
-      }
+  found_first : (v : ℕ) (b : Bool) → least_forced row cube ≡ Some (v, b) → (found (forces_any row cube) row.terms ≡ Some v) × (forces row cube v true ≡ b)
+  found_first v b e = split (found (forces_any row cube) row.terms) (λ w. forces row cube w true) v b e
 
-  value_is : (v : ℕ) (b : Bool) → is_refuted row cube ≡ false → forces row cube v b ≡ true → forces row cube v true ≡ b
-  value_is v true stands h = h
-  value_is v false stands h =
-      forces_one row cube v (rising_from row.terms ascending) k stands
-      ∙ one_way_by (is_free cube v) (room_of row cube) (coef_at row.terms v) (room_is_some row cube stands) (sym (forces_zero row cube v (rising_from row.terms ascending) k stands) ∙ h)
+  found_is_forced : (v : ℕ) (b : Bool) → least_forced row cube ≡ Some (v, b) → Forces row cube v b
+  found_is_forced v b e =
+      let at = found_first v b e in
+      forces_from_test row cube v b (value_from row cube v b (found_passes (forces_any row cube) row.terms v at.0) at.1)
 
-  pub least_forced_from : (v : ℕ) (b : Bool) → IsLeastForced row cube v b → least_forced row cube ≡ Some (v, b)
-  least_forced_from v b least =
-      let stands = least.forced.open_yet in
-      let here = test_from_forces row cube v b least.forced in
-      let any = any_from row cube v b here in
-      from_found (found (forces_any row cube) row.terms) refl stands here any where
-        from_found : (o : Option ℕ) → found (forces_any row cube) row.terms ≡ o → is_refuted row cube ≡ false → forces row cube v b ≡ true → forces_any row cube v ≡ true → least_forced row cube ≡ Some (v, b)
-        from_found None e stands here any = absurd (has_coef v stands any (none_found (forces_any row cube) row.terms v e any))
-        from_found (Some u) e stands here any =
-            let low : u ≤ v = found_is_least (forces_any row cube) row.terms u v (rising_from row.terms ascending) e any (has_coef v stands any) in
-            let u_any = found_passes (forces_any row cube) row.terms u e in
-            let high : v ≤ u = least.least u (forces row cube u true) (forces_from_test row cube u (forces row cube u true) (value_from row cube u (forces row cube u true) u_any refl)) in
-            let same : u ≡ v = omega arith in
-            ap (option_map (λ w. (w, forces row cube w true))) (e ∙ ap (λ n. Some n) same) ∙ ap (λ c. Some (v, c)) (value_is v b stands here)
-
-  pub least_forced_is : (v : ℕ) (b : Bool) → (least_forced row cube ≡ Some (v, b)) ↔ IsLeastForced row cube v b
-  least_forced_is v b = (least_forced_to v b, least_forced_from v b)
-
-  -- and there is none exactly where the row forces nothing
-  nothing_to : least_forced row cube ≡ None → (v : ℕ) (b : Bool) → Forces row cube v b → ⊥
-  nothing_to none v b forced =
-      let any = any_from row cube v b (test_from_forces row cube v b forced) in
-      has_coef v forced.open_yet any (none_found (forces_any row cube) row.terms v (unmapped (found (forces_any row cube) row.terms) none) any) where
-        unmapped : (o : Option ℕ) → option_map {U = ℕ × Bool} (λ w. (w, forces row cube w true)) o ≡ None → o ≡ None
-        unmapped None e = refl
-        unmapped (Some w) e = let f : Some (w, forces row cube w true) ≡ None = e in cc
-
-  nothing_from : ((v : ℕ) (b : Bool) → Forces row cube v b → ⊥) → least_forced row cube ≡ None
+  pub nothing_from : ForcesNothing row cube → least_forced row cube ≡ None
   nothing_from nothing = none_of (least_forced row cube) refl where
     none_of : (o : Option (ℕ × Bool)) → least_forced row cube ≡ o → least_forced row cube ≡ None
     none_of None e = e
-    none_of (Some p) e = absurd (nothing p.0 p.1 (least_forced_to p.0 p.1 e).forced)
+    none_of (Some p) e = absurd (nothing p.0 p.1 (found_is_forced p.0 p.1 e))
 
-  pub nothing_is_forced : (least_forced row cube ≡ None) ↔ ((v : ℕ) (b : Bool) → Forces row cube v b → ⊥)
+  pub nothing_is_forced : (least_forced row cube ≡ None) ↔ ForcesNothing row cube
   nothing_is_forced = (nothing_to, nothing_from)
+
+  -- and it is the least that is forced, where terms ascend
+  module _ (ascending : IsStrictlyIncreasing (map (λ (t : Term). t.var.0) row.terms)) where
+    none_less : (v w : ℕ) (c : Bool) → found (forces_any row cube) row.terms ≡ Some v → Forces row cube w c → v ≤ w
+    none_less v w c e forced =
+        let not_before : w < v → ⊥ = λ less. apart_is_idle row cube w c (none_before (forces_any row cube) row.terms v w (rising_from row.terms ascending) e (any_of w c forced) less) forced in
+        omega (arith, not_before)
+
+    pub least_forced_to : (v : ℕ) (b : Bool) → least_forced row cube ≡ Some (v, b) → IsLeastForced row cube v b
+    least_forced_to v b e = record {
+      forced = found_is_forced v b e;
+      least = λ w c forced. none_less v w c (found_first v b e).0 forced;
+    }
+
+    -- the other way round, where only fixed variables are fixed to 1
+    module _ (k : IsCube cube) where
+      value_is : (v : ℕ) (b : Bool) → is_refuted row cube ≡ false → forces row cube v b ≡ true → forces row cube v true ≡ b
+      value_is v true stands h = h
+      value_is v false stands h =
+          forces_one row cube v (rising_from row.terms ascending) k stands
+          ∙ one_way_by (is_free cube v) (room_of row cube) (coef_at row.terms v) (room_is_some row cube stands) (sym (forces_zero row cube v (rising_from row.terms ascending) k stands) ∙ h)
+
+      least_forced_from : (v : ℕ) (b : Bool) → IsLeastForced row cube v b → least_forced row cube ≡ Some (v, b)
+      least_forced_from v b least = from_found (least_forced row cube) refl where
+        from_found : (o : Option (ℕ × Bool)) → least_forced row cube ≡ o → least_forced row cube ≡ Some (v, b)
+        from_found None e = absurd (nothing_to e v b least.forced)
+        from_found (Some (u, c)) e =
+            let there = least_forced_to u c e in
+            let low : u ≤ v = there.least v b least.forced in
+            let high : v ≤ u = least.least u c there.forced in
+            let same : u ≡ v = omega (arith, low, high) in
+            let here : Forces row cube v c = let P : ℕ → Type 0 = λ w. Forces row cube w c in subst P same there.forced in
+            let value : c ≡ b = sym (value_is v c here.open_yet (test_from_forces row cube v c here)) ∙ value_is v b here.open_yet (test_from_forces row cube v b least.forced) in
+            e ∙ ap (λ w. Some (w, c)) same ∙ ap (λ d. Some (v, d)) value
+
+      pub least_forced_is : (v : ℕ) (b : Bool) → (least_forced row cube ≡ Some (v, b)) ↔ IsLeastForced row cube v b
+      least_forced_is v b = (least_forced_to v b, least_forced_from v b)
+
+-- the same of what the code answers
+pub told_nothing : (row : RowParts) (cube : CubeParts) (told : Option (VarId × Bool)) → option_map number_of told ≡ least_forced row cube → IfNone told (ForcesNothing row cube)
+told_nothing row cube None e = nothing_to row cube (sym e)
+told_nothing row cube (Some p) e = tt
+
+pub told_least : (row : RowParts) (cube : CubeParts) (told : Option (VarId × Bool)) → IsStrictlyIncreasing (map (λ (t : Term). t.var.0) row.terms) → option_map number_of told ≡ least_forced row cube → IfSome told (λ p. IsLeastForced row cube p.0.0 p.1)
+told_least row cube None ascending e = tt
+told_least row cube (Some p) ascending e = least_forced_to row cube ascending p.0.0 p.1 (sym e)

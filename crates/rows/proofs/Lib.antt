@@ -7,6 +7,8 @@ pub mod Costs
 pub mod KnownRows
 pub mod WhatIsForced
 pub mod ForcedTurns
+pub mod Ascending
+pub mod LeastForced
 pub mod QuietRows
 pub mod EmptyProblem
 pub mod Combinations
@@ -16,4 +18,3 @@ pub mod EdgeRows
 pub mod CubeLaws
 pub mod Chosen
 pub mod VectorLaws
-pub mod LeastForced

@@ -9,6 +9,7 @@ use Rattle.std.proofs.lemmas.List.Folds.{list_all-map, list_all_more, list_all_a
 use Rattle.arch_model.proofs.Members.{and_left, and_right, and_both}
 use Rattle.rows.specs.Parts.{RowParts, CubeParts}
 use Rattle.rows.specs.Activity.{is_refuted, least_forced, IsQuietAt, is_quiet_at}
+use Rattle.rows.proofs.LeastForced.{nothing_to, nothing_from}
 
 none_is : {X : Type 0} (o : Option X) → is_none o ≡ true → o ≡ None
 none_is (Some x) h = absurd (let e : false ≡ true = h in cc)
@@ -21,11 +22,11 @@ not_true false h = refl
 tested : (cube : CubeParts) (row : RowParts) → is_quiet_at cube row ≡ true → IsQuietAt cube row
 tested cube row h = record {
   open_yet = not_true (is_refuted row cube) (and_left (not (is_refuted row cube)) (is_none (least_forced row cube)) h);
-  still = none_is (least_forced row cube) (and_right (not (is_refuted row cube)) (is_none (least_forced row cube)) h);
+  still = nothing_to row cube (none_is (least_forced row cube) (and_right (not (is_refuted row cube)) (is_none (least_forced row cube)) h));
 }
 
 passed : (cube : CubeParts) (row : RowParts) → IsQuietAt cube row → is_quiet_at cube row ≡ true
-passed cube row h = and_both (not (is_refuted row cube)) (is_none (least_forced row cube)) (ap not h.open_yet) (ap is_none h.still)
+passed cube row h = and_both (not (is_refuted row cube)) (is_none (least_forced row cube)) (ap not h.open_yet) (ap is_none (nothing_from row cube h.still))
 
 -- the test of all rows is exact
 pub all_tested : (cube : CubeParts) (rows : List RowParts) → IsTrue (list_all (is_quiet_at cube) rows) ↔ All (IsQuietAt cube) rows

@@ -15,7 +15,8 @@ use Rattle.rows.specs.declared.row.Term.{Term}
 use Rattle.rows.specs.Parts.{RowParts, CubeParts}
 use Rattle.rows.specs.Row.{int_sum_by, term, coef_at, is_nonzero, collected}
 use Rattle.rows.specs.Cube.{IsCube, value_at, is_free, fixed_at}
-use Rattle.rows.specs.Activity.{best_of, greatest_activity, is_refuted, forces, least_forced, forced_value, room_of}
+use Rattle.rows.specs.Activity.{best_of, greatest_activity, is_refuted, Forces, forces, least_forced}
+use Rattle.rows.specs.Room.{forced_value, room_of}
 use Rattle.rows.proofs.Costs.{unlike}
 
 -- terms that ascend by variable
@@ -90,11 +91,24 @@ coef_after (t ∷ terms) v h =
 abbrev activity : List Term → CubeParts → ℤ
 activity terms cube = int_sum_by (λ t. best_of (value_at cube t.var.0) t.coef) terms
 
-activity_after : (terms : List Term) (cube : CubeParts) (v : ℕ) (b : Bool) → After v terms → activity terms (fixed_at cube v b) ≡ activity terms cube
-activity_after [] cube v b h = refl
-activity_after (t ∷ terms) cube v b h =
-    let ne : v ≡ t.var.0 → ⊥ = λ e. absurd (omega (arith, h.0, e)) in
-    ap (λ o. best_of o t.coef +ℤ activity terms (fixed_at cube v b)) (value_other cube v t.var.0 b ne) ∙ ap (λ s. best_of (value_at cube t.var.0) t.coef +ℤ s) (activity_after terms cube v b h.1)
+abbrev pub Apart : ℕ → List Term → Type 0
+Apart v terms = AllByRecursion (λ t. v ≡ t.var.0 → ⊥) terms
+
+pub apart_after : (v w : ℕ) (terms : List Term) → v ≤ w → After w terms → Apart v terms
+apart_after v w [] le h = tt
+apart_after v w (t ∷ terms) le h = ((λ e. absurd (omega (arith, le, h.0, e))), apart_after v w terms le h.1)
+
+activity_apart : (terms : List Term) (cube : CubeParts) (v : ℕ) (b : Bool) → Apart v terms → activity terms (fixed_at cube v b) ≡ activity terms cube
+activity_apart [] cube v b h = refl
+activity_apart (t ∷ terms) cube v b h =
+    ap (λ o. best_of o t.coef +ℤ activity terms (fixed_at cube v b)) (value_other cube v t.var.0 b h.0) ∙ ap (λ s. best_of (value_at cube t.var.0) t.coef +ℤ s) (activity_apart terms cube v b h.1)
+
+-- so a variable that no term has isn't forced
+pub apart_is_idle : (row : RowParts) (cube : CubeParts) (v : ℕ) (b : Bool) → Apart v row.terms → Forces row cube v b → ⊥
+apart_is_idle row cube v b h forced =
+    let same : is_refuted row (fixed_at cube v (not b)) ≡ is_refuted row cube = ap (λ z. int_lt z row.least) (activity_apart row.terms cube v (not b) h) in
+    let e : true ≡ false = sym forced.other ∙ same ∙ forced.open_yet in
+    cc
 
 -- once a free variable is fixed, its coefficient is taken at its value in place of its better one
 swapped : (x y s : ℤ) → (x +ℤ s) +ℤ y ≡ (y +ℤ s) +ℤ x
@@ -128,7 +142,7 @@ activity_fixed (t ∷ terms) cube v b h k free = elim (eqb_tells t.var.0 v) [
   | inl w ↦
       let later : After v terms = after_at t terms v w.1 h.0 in
       here (value_at cube t.var.0) (value_at (fixed_at cube v b) t.var.0) t.coef (coef_at (t ∷ terms) v) (activity terms (fixed_at cube v b)) (activity terms cube) b
-      (ap (value_at (fixed_at cube v b)) w.1 ∙ value_same cube v b k free) (ap (value_at cube) w.1 ∙ value_free cube v free) (coef_head t terms v w.1 later) (activity_after terms cube v b later)
+      (ap (value_at (fixed_at cube v b)) w.1 ∙ value_same cube v b k free) (ap (value_at cube) w.1 ∙ value_free cube v free) (coef_head t terms v w.1 later) (activity_apart terms cube v b (apart_after v v terms (omega arith) later))
   | inr w ↦
       let ne : v ≡ t.var.0 → ⊥ = λ e. w.1 (sym e) in
       elsewhere (value_at cube t.var.0) (value_at (fixed_at cube v b) t.var.0) t.coef (coef_at (t ∷ terms) v) (coef_at terms v) (activity terms (fixed_at cube v b)) (activity terms cube) b
@@ -271,7 +285,7 @@ find_kept : (p q : ℕ → Bool) → ((v : ℕ) → q v ≡ false → p v ≡ fa
 find_kept p q h [] = refl
 find_kept p q h (v ∷ vs) = find_kept_one p (q v) v (filter q vs) (h v) ∙ ap (λ r. cond (p v) (Some v) r) (find_kept p q h vs)
 
-own_var : (coef : ℕ → ℤ) (vs : List ℕ) → map (λ t. t.var.0) (map (λ v. term v (coef v)) vs) ≡ vs
+pub own_var : (coef : ℕ → ℤ) (vs : List ℕ) → map (λ t. t.var.0) (map (λ v. term v (coef v)) vs) ≡ vs
 own_var coef [] = refl
 own_var coef (v ∷ vs) = ap (λ l. v ∷ l) (own_var coef vs)
 

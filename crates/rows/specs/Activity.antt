@@ -1,9 +1,8 @@
 -- Greatest activities, and what a row refutes and forces in a cube (textbook propagation).
-use Rattle.std.specs.Prelude.{is_none, ◌≡◌, ℕ, ◌≤◌, ℤ, pos, neg_ℤ, ◌-ℤ◌, ◌<ℤ◌, int_lt, Bool, true, false, not, ◌&&◌, map, Option, Some, None, if◌then◌else◌}
+use Rattle.std.specs.Prelude.{is_none, ◌≡◌, ℕ, ◌≤◌, ℤ, pos, ◌<ℤ◌, int_lt, Bool, true, false, not, ◌&&◌, map, Option, Some, None, if◌then◌else◌}
 use Rattle.std.specs.Int.{int_max}
 use Rattle.std.specs.Option.{option_map}
 use Rattle.std.specs.List.{find}
-use Rattle.arch_model.specs.declared.sets.VarId.{VarId}
 use Rattle.rows.specs.Parts.{RowParts, CubeParts}
 use Rattle.rows.specs.Row.{int_sum_by}
 use Rattle.rows.specs.Cube.{value_at, is_free, fixed_at}
@@ -35,33 +34,25 @@ pub record Forces (row : RowParts) (cube : CubeParts) (v : ℕ) (b : Bool) : Typ
 abbrev pub forces : RowParts → CubeParts → ℕ → Bool → Bool
 forces row cube v b = not (is_refuted row cube) && (is_free cube v && is_refuted row (fixed_at cube v (not b)))
 
--- the least variable that a row forces in a cube, and the value to which; none where it forces nothing
+-- a row forces nothing in a cube
+abbrev pub ForcesNothing : RowParts → CubeParts → Type 0
+ForcesNothing row cube = (v : ℕ) (b : Bool) → Forces row cube v b → ⊥
+
+-- the first variable in term order that a row forces in a cube, which is the least where terms ascend, and the value to which; none where it forces nothing
 abbrev pub least_forced : RowParts → CubeParts → Option (ℕ × Bool)
 least_forced row cube =
     option_map (λ v. (v, forces row cube v true)) (find (λ v. if forces row cube v true then true else forces row cube v false) (map (λ t. t.var.0) row.terms))
 
--- the same as a relation
+-- v is the least variable that a row forces in a cube, and b its value
 pub record IsLeastForced (row : RowParts) (cube : CubeParts) (v : ℕ) (b : Bool) : Type 0 where
   pub forced : Forces row cube v b
   pub least : (w : ℕ) (c : Bool) → Forces row cube w c → v ≤ w
 
--- to which value a variable is forced, from whether it is fixed, its coefficient and how far the row's greatest activity is above its least
-abbrev pub forced_value : Bool → ℤ → ℤ → Option Bool
-forced_value fixed a room = if fixed then None else (if int_lt room a then Some true else (if int_lt room (neg_ℤ a) then Some false else None))
-
--- how far a row's greatest activity is above its least
-abbrev pub room_of : RowParts → CubeParts → ℤ
-room_of row cube = greatest_activity row cube -ℤ row.least
-
 -- a row is quiet in a cube where it is neither refuted there nor forces anything
 pub record IsQuietAt (cube : CubeParts) (row : RowParts) : Type 0 where
   pub open_yet : is_refuted row cube ≡ false
-  pub still : least_forced row cube ≡ None
+  pub still : ForcesNothing row cube
 
 -- its test
 abbrev pub is_quiet_at : CubeParts → RowParts → Bool
 is_quiet_at cube row = not (is_refuted row cube) && is_none (least_forced row cube)
-
--- a forced variable by its number
-abbrev pub number_of : VarId × Bool → ℕ × Bool
-number_of p = (p.0.0, p.1)

@@ -3,6 +3,7 @@ pub mod Row
 pub mod Cut
 pub mod Cube
 pub mod Activity
+pub mod Room
 pub mod BaseRows
 pub mod Known
 pub mod Trace

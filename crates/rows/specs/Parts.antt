@@ -30,7 +30,7 @@ pub record ProblemParts : Type 0 where
   pub library : LibraryParts
   pub base : List RowParts
 
--- what a node of the search knows: the program, the cuts numbered below `upto`, and that the cost is below a bound
+-- what a node of the search knows: the program, the cuts numbered below `upto`, and that the cost is below a bound, in cost units
 pub record KnownParts : Type 0 where
   pub problem : ProblemParts
   pub cuts : List CutParts

@@ -3,8 +3,7 @@ use Rattle.std.specs.Prelude.{◌≡◌, ◌↔◌, ℕ, ◌<◌, ◌^◌, Bool,
 use Rattle.std.specs.List.{All}
 use Rattle.arch_model.specs.Set.{has}
 use Rattle.arch_model.specs.Parts.{LibraryParts, ArchitectureParts}
-use Rattle.arch_model.specs.Architecture.{IsArchitecture}
-use Rattle.arch_model.specs.Pattern.{MeetsPattern}
+use Rattle.arch_model.specs.Admissible.{MeetsPatterns}
 use Rattle.arch_model.specs.Member.{is_present, member_count}
 use Rattle.rows.specs.Parts.{RowParts, ProblemParts}
 use Rattle.rows.specs.Row.{RowHolds, IsRowBelow}
@@ -15,8 +14,7 @@ IsVectorOf lib arch x = (v : ℕ) → v < member_count lib → x v ≡ is_presen
 
 -- an architecture that meets every pattern and has every required sink
 pub record IsCandidate (lib : LibraryParts) (arch : ArchitectureParts) : Type 0 where
-  pub architecture : IsArchitecture lib arch
-  pub patterns : All (MeetsPattern lib arch) lib.patterns
+  pub meets : MeetsPatterns lib arch
   pub sinks : All (λ r. IsTrue (has arch.comps r.sink.0)) lib.requirements
 
 -- fewer than 2^32 rows over the library's variables; a vector meets all of them exactly where it is that of a candidate

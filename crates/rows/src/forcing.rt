@@ -1,7 +1,9 @@
 // Which variable a row forces.
-ghost use Rattle.std.specs.Prelude.{◌≡◌, ℕ, ◌≤◌, ◌^◌, pos, ◌-ℤ◌, false, unsigned_abs, option_map, IfSome, IsTrue};
+ghost use Rattle.std.specs.Prelude.{◌≡◌, ℕ, ◌≤◌, ◌^◌, pos, ◌-ℤ◌, false, unsigned_abs};
+ghost use Rattle.std.specs.Prelude.{option_map, IfSome, IfNone, IsTrue};
 ghost use Rattle.rows.specs.Row.{IsSized, row_of_cut};
-ghost use Rattle.rows.specs.Activity.{is_refuted, forced_value, room_of, least_forced, number_of};
+ghost use Rattle.rows.specs.Activity.{is_refuted, ForcesNothing, least_forced, IsLeastForced};
+ghost use Rattle.rows.specs.Room.{forced_value, room_of, number_of};
 ghost use Rattle.rows.specs.BaseRows.{cost_row_of};
 ghost use Rattle.rows.specs.Known.{parts_of, has_row, row_at};
 
@@ -83,7 +85,9 @@ fn forced_by_cost(lib: &Library, cube: &Cube, room: i128) -> Option<(VarId, bool
 
 // The least variable that a row forces, whether it is refuted or not.
 pub fn forces_of_row(row: &Row, cube: &Cube) -> Option<(VarId, bool)>
-    ensures { option_map number_of result ≡ least_forced row.now cube.now }
+    ensures first { option_map number_of result ≡ least_forced row.now cube.now }
+    ensures least { IfSome result (λ p. IsLeastForced row.now cube.now p.0.0 p.1) }
+    ensures none { IfNone result (ForcesNothing row.now cube.now) }
 {
     let room = greatest_of_row(row, cube) - row.least();
     if room < 0 {
@@ -94,7 +98,9 @@ pub fn forces_of_row(row: &Row, cube: &Cube) -> Option<(VarId, bool)>
 
 // The same for a cut.
 pub fn forces_of_cut(cut: &CutRow, cube: &Cube) -> Option<(VarId, bool)>
-    ensures { option_map number_of result ≡ least_forced (row_of_cut cut.now) cube.now }
+    ensures first { option_map number_of result ≡ least_forced (row_of_cut cut.now) cube.now }
+    ensures least { IfSome result (λ p. IsLeastForced (row_of_cut cut.now) cube.now p.0.0 p.1) }
+    ensures none { IfNone result (ForcesNothing (row_of_cut cut.now) cube.now) }
 {
     let room = greatest_of_cut(cut, cube) - cut.least();
     if room < 0 {
@@ -105,7 +111,9 @@ pub fn forces_of_cut(cut: &CutRow, cube: &Cube) -> Option<(VarId, bool)>
 
 // The same for the cost row.
 pub fn forces_of_cost(lib: &Library, bound: u64, cube: &Cube) -> Option<(VarId, bool)>
-    ensures { option_map number_of result ≡ least_forced (cost_row_of lib.now bound) cube.now }
+    ensures first { option_map number_of result ≡ least_forced (cost_row_of lib.now bound) cube.now }
+    ensures least { IfSome result (λ p. IsLeastForced (cost_row_of lib.now bound) cube.now p.0.0 p.1) }
+    ensures none { IfNone result (ForcesNothing (cost_row_of lib.now bound) cube.now) }
 {
     let room = greatest_of_cost(lib, cube) - (1 - bound as i128);
     if room < 0 {
@@ -119,7 +127,11 @@ pub fn forces_of_cost(lib: &Library, bound: u64, cube: &Cube) -> Option<(VarId, 
 /// is once the variable has the other value.
 pub fn forces(known: &Known, r: RowRef, cube: &Cube) -> Option<(VarId, bool)>
     requires { IsTrue (has_row (parts_of known.now) r) }
-    ensures { IfSome (row_at (parts_of known.now) r) (λ row. option_map number_of result ≡ least_forced row cube.now) }
+    ensures first { IfSome (row_at (parts_of known.now) r)
+        (λ row. option_map number_of result ≡ least_forced row cube.now) }
+    ensures least { IfSome (row_at (parts_of known.now) r)
+        (λ row. IfSome result (λ p. IsLeastForced row cube.now p.0.0 p.1)) }
+    ensures none { IfSome (row_at (parts_of known.now) r) (λ row. IfNone result (ForcesNothing row cube.now)) }
 {
     match r {
         RowRef::Base(i) => forces_of_row(&known.problem.base()[i as usize], cube),

@@ -6,10 +6,10 @@ ghost use Rattle.arch_model.specs.Set.{has};
 ghost use Rattle.arch_model.specs.Parts.{LibraryParts, ArchitectureParts};
 ghost use Rattle.arch_model.specs.Library.{IsLibrary};
 ghost use Rattle.arch_model.specs.Architecture.{IsArchitecture, cost_of};
-ghost use Rattle.rows.specs.Parts.{RowParts, CubeParts};
-ghost use Rattle.rows.specs.Row.{RowHolds, IsRowBelow};
+ghost use Rattle.rows.specs.Parts.{RowParts, CutParts, CubeParts};
+ghost use Rattle.rows.specs.Row.{RowHolds, IsRowBelow, row_of_cut};
 ghost use Rattle.rows.specs.Cube.{IsCube, LiesIn, IsFull};
-ghost use Rattle.rows.specs.Activity.{IsRefuted, is_refuted, Forces, least_forced, IsLeastForced};
+ghost use Rattle.rows.specs.Activity.{IsRefuted, is_refuted, Forces, ForcesNothing, least_forced, IsLeastForced};
 ghost use Rattle.rows.specs.BaseRows.{edge_rows, cost_row_of};
 ghost use Rattle.rows.specs.Problem.{IsVectorOf};
 
@@ -25,13 +25,21 @@ pub fn forced_values_are_kept()
         → Forces row cube v b → LiesIn x cube → RowHolds row x → x v ≡ b }
 {}
 
-/// The least forced variable is the least of all that the row forces, with the value to which it is
-/// forced, and there is none exactly where the row forces nothing.
+/// The forced variable that comes first in term order is the least of all that the row forces, with
+/// the value to which it is forced, where terms ascend. There is none exactly where the row forces
+/// nothing.
 pub fn the_least_is_forced()
     ensures least { (row : RowParts) (cube : CubeParts) → IsStrictlyIncreasing (map (λ t. t.var.0) row.terms)
         → IsCube cube → (v : ℕ) (b : Bool) → (least_forced row cube ≡ Some (v, b)) ↔ IsLeastForced row cube v b }
-    ensures none { (row : RowParts) (cube : CubeParts) → IsStrictlyIncreasing (map (λ t. t.var.0) row.terms)
-        → IsCube cube → (least_forced row cube ≡ None) ↔ ((v : ℕ) (b : Bool) → Forces row cube v b → ⊥) }
+    ensures none { (row : RowParts) (cube : CubeParts) → (least_forced row cube ≡ None) ↔ ForcesNothing row cube }
+{}
+
+/// The terms of a cut's row and of a cost row ascend. Those of a base row do since each `Row` keeps
+/// it (`Row::terms`).
+pub fn terms_ascend()
+    ensures cut { (cut : CutParts) → IsStrictlyIncreasing (map (λ t. t.var.0) (row_of_cut cut).terms) }
+    ensures cost { (lib : LibraryParts) (u : ℕ)
+        → IsStrictlyIncreasing (map (λ t. t.var.0) (cost_row_of lib u).terms) }
 {}
 
 /// Where nothing is free, a row is refuted exactly where the one vector of the cube doesn't meet

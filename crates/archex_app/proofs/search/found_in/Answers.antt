@@ -25,4 +25,4 @@ pub returns-clause-only : goal.returns-clause-only
 returns-clause-only c arch candidate lies =
     let fits = subst (λ (lib : LibraryParts). IsArchitecture lib c.architecture_of-architecture.result) c.library-lib.ensures.library c.architecture_of-architecture.ensures.architecture in
     let of = subst (λ (lib : LibraryParts). IsCubeOf lib c.architecture_of-architecture.result c.args.cube.now) c.library-lib.ensures.library c.architecture_of-architecture.ensures.cube in
-    lies_alone c.args.problem.now.library c.architecture_of-architecture.result arch c.args.cube.now fits candidate.architecture (vector_of_cube c.args.problem.now.library c.architecture_of-architecture.result c.args.cube.now of) c.requires.full lies
+    lies_alone c.args.problem.now.library c.architecture_of-architecture.result arch c.args.cube.now fits candidate.meets.architecture (vector_of_cube c.args.problem.now.library c.architecture_of-architecture.result c.args.cube.now of) c.requires.full lies
