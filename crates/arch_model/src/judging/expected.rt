@@ -1,7 +1,8 @@
 // Whether components and edges are those of types and links: each walk takes from a list what it
 // must begin with.
 ghost use Rattle.std.specs.Prelude.{◌≡◌, ◌↔◌, ◌++◌, List, ◌∷◌, IsTrue, IsSome, IfSome};
-ghost use Rattle.arch_model.specs.Template.{components_of, instances_of_type, instances_of, edges_of, edges_of_link, instance_of_type, edge_of, edges_to};
+ghost use Rattle.arch_model.specs.Template.{components_of, instances_of_type, instances_of, edges_of, edges_of_link};
+ghost use Rattle.arch_model.specs.Template.{instance_of_type, edge_of, edges_to};
 
 use crate::library::{LinkRow, TypeRow};
 use crate::template::{Component, Edge};
