@@ -225,8 +225,14 @@ min = 2";
             library.extend_from_slice(further)?;
         }
         let words = &["solve", "x.toml"];
-        let (_, printed) = run_on(alloc, words, library.as_slice(), &[])?;
+        let (ended, printed) = run_on(alloc, words, library.as_slice(), &[])?;
         assert!(rt; printed.as_slice().starts_with(front));
+        let due = if front.starts_with(b"status optimal") {
+            Status::OPTIMAL
+        } else {
+            Status::INFEASIBLE
+        };
+        assert_eq!(rt; ended, due);
     }
     Ok(())
 }
