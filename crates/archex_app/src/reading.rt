@@ -3,11 +3,12 @@ ghost use Rattle.std.specs.Prelude.{◌≡◌, ℕ, ◌+◌, ◌≤◌, ◌<◌,
 ghost use Rattle.outside.specs.Faults.{Rose};
 ghost use Rattle.archex_app.specs.Reading.{IsFront, IsWhole};
 
+use lib_read::LARGEST;
 use outside::{Failed, Shelf};
 use std::alloc::{AllocError, Global};
 
 /// The greatest number of bytes that are read of a library: one more than it may have.
-pub const READ_LIMIT: usize = 1048577;
+pub const READ_LIMIT: usize = LARGEST + 1;
 
 /// How many bytes are asked for at once.
 const PIECE: usize = 16384;

@@ -110,10 +110,10 @@ fn search(problem: &Problem, cuts: &CutList, next: u32, cube: &Cube, best: &mut 
         upto: 0,
         bound: bound_of(best),
     };
-    if breaks_base_row(&known, cube) {
+    if breaks_bound(&known, cube) {
         return;
     }
-    if breaks_bound(&known, cube) {
+    if breaks_base_row(&known, cube) {
         return;
     }
     if next == variable_count(lib) {
