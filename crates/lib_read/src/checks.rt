@@ -44,7 +44,7 @@ fn all_name_bytes(bytes: &[u8]) -> bool
 fn is_name_byte(c: u8) -> bool
     ensures { result ≡ name.is_name_byte c }
 {
-    (97 <= c && c <= 122) || (48 <= c && c <= 57) || c == 95
+    (b'a' <= c && c <= b'z') || (b'0' <= c && c <= b'9') || c == b'_'
 }
 
 // Whether the first byte is a lower-case letter.
@@ -52,7 +52,7 @@ fn begins_lower(bytes: &[u8]) -> bool
     ensures { result ≡ name.begins_lower bytes.now }
 {
     match bytes.first() {
-        Some(c) => 97 <= *c && *c <= 122,
+        Some(c) => b'a' <= *c && *c <= b'z',
         None => false,
     }
 }

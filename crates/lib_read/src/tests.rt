@@ -560,22 +560,30 @@ fn components_exist_up_to_the_max_as_written(rt: HostRuntime) -> Result<(), Fail
     Ok(())
 }
 
-// A library with faults of each class, and what mends them: each step mends its first fault.
-#[test]
-fn faults_come_by_class_then_table_then_place_then_key(rt: HostRuntime) -> Result<(), Fail> {
-    let mut text = String::from_str(
-        rt.alloc(),
-        r#"type = [
+// A library's lines up to its first pattern, with faults of the classes from UnknownKey on.
+const FAULTY: &str = r#"type = [
   {name = "a", role = "source", cost = -1, max = 65, supply = 0.5},
   {name = "B", role = "middle", max = 60},
   {name = "a", role = "end", zz = 1, aa = 1},
 ]
 link = [{from = "a", to = "c", y = 1}, {from = "a"}, {from = "a", to = "c"}]
-pattern = [{kind = "count", type = "d", min = 600, x = 1}]
-w = 1
-"#,
-    )?;
+pattern = [
+  {kind = "count", type = "d", min = 600, x = 1},
+"#;
+
+// A file that is too large, no TOML and faulty in each class below, and what mends it: each step
+// mends its first fault. At the end three limits are passed, and what mends one just meets it:
+// 31 + 32 + 1 components, 8 * 32 + 32 * 8 edges, 200 patterns.
+#[test]
+fn faults_come_by_class_then_table_then_place_then_key(rt: HostRuntime) -> Result<(), Fail> {
+    let padding = "#".repeat(rt.alloc(), LARGEST)?;
+    let counts = "  {kind = \"count\", type = \"a\"},\n".repeat(rt.alloc(), 200)?;
+    let mut text = format!(in rt.alloc(); "{FAULTY}{counts}]\nw = 1\nv = [\n")?;
+    let padded = format!(in rt.alloc(); "{text}{padding}")?;
+    let read = reading(rt.alloc(), padded.as_bytes())?;
+    assert_eq!(rt; read.as_str(), "TooLarge Library 0 -");
     for (fault, old, new) in [
+        ("NotToml Library 0 -", "v = [\n", ""),
         ("UnknownKey Library 0 w", "w = 1\n", ""),
         ("UnknownKey Types 3 aa", ", aa = 1", ""),
         ("UnknownKey Types 3 zz", ", zz = 1", ""),
@@ -598,10 +606,16 @@ w = 1
         ("UnknownName Links 2 from", r#"from = "c""#, r#"from = "b""#),
         ("UnknownName Patterns 1 type", r#""d""#, r#""e""#),
         ("Range Types 1 cost", "cost = -1", "cost = 1"),
-        ("Range Types 1 max", "max = 65", "max = 4"),
+        ("Range Types 1 max", "max = 65", "max = 31"),
         ("Range Types 3 role", r#""end""#, r#""sink""#),
         ("Range Patterns 1 min", "min = 600", "min = 0"),
-        ("TooMany Library 0 type", "max = 60", "max = 6"),
+        ("TooMany Library 0 type", "max = 60", "max = 32"),
+        ("TooMany Library 0 link", "max = 31", "max = 8"),
+        (
+            "TooMany Library 0 pattern",
+            r#"  {kind = "count", type = "e", min = 0},"#,
+            "",
+        ),
     ] {
         let read = reading(rt.alloc(), text.as_bytes())?;
         assert_eq!(rt; read.as_str(), fault);
