@@ -1,13 +1,18 @@
 // Base rows of small libraries, worked out by hand, and cubes of architectures.
+ghost use Rattle.std.specs.Prelude.{◌<◌};
 ghost use Rattle.arch_model.specs.Name.{IsTypeName};
 
 use crate::adding::row_from;
 use crate::{architecture_of, cube_of, problem_of};
+use arch_model::limits::MEMBERS;
 use arch_model::{
     Architecture, CompId, CompSet, EdgeId, EdgeSet, Library, LinkRow, Memory, Name, Pattern,
     Requirement, Role, TypeRow, VarId, fits, is_library,
 };
-use rows::{Row, Term};
+use rows::{
+    Cube, CutList, Known, Pair, Reason, Row, RowRef, Term, forces, greatest, has, quiet, refuted,
+    together,
+};
 use std::alloc::Global;
 use std::process::Abort;
 use std::test::Fail;
@@ -333,18 +338,26 @@ fn a_row_has_one_term_a_variable(rt: HostRuntime) -> Result<(), Fail> {
     Ok(())
 }
 
-// 64 components and 512 edges, with the greatest supplies and costs.
+// Whether all terms have this coefficient.
+fn have_coef(terms: &[Term], coef: i128) -> bool {
+    terms.iter().all(|t| t.coef == coef)
+}
+
+// 64 components and 512 edges, with the greatest supplies, demands and costs. After the rows of the
+// edges come that of the total supply, those of the local supply at 32 of b and then at 16 of a,
+// and that of the cost.
 #[test]
 fn the_largest_coefficients_fit(rt: HostRuntime) -> Result<(), Fail> {
     let most = 1_000_000_000_000;
     let types = [
         row("a", Role::Source, 16, most, most, 0),
-        row("b", Role::Sink, 32, most, most, 0),
+        row("b", Role::Sink, 32, most, 0, most),
         row("c", Role::Middle, 16, most, most, 0),
     ];
     let patterns = [
         Pattern::TotalSupply,
         Pattern::LocalSupply { of: 1 },
+        Pattern::LocalSupply { of: 0 },
         Pattern::CostCap {
             max: 1_000_000_000_000_000,
         },
@@ -354,29 +367,160 @@ fn the_largest_coefficients_fit(rt: HostRuntime) -> Result<(), Fail> {
     assert_eq!(rt; lib.edges().len(), 512);
     let problem = problem_of(rt.alloc(), lib)?;
     let rows = problem.base();
-    assert_eq!(rt; rows.len(), 1058);
-    assert_eq!(rt; rows[1024].terms().len(), 64);
-    assert!(rt;
-        rows[1024]
-            .terms()
-            .iter()
-            .all(|t| t.coef == 1_000_000_000_000)
-    );
+    assert_eq!(rt; rows.len(), 1074);
+    let total = rows[1024].terms();
+    assert_eq!(rt; total.len(), 64);
+    assert!(rt; have_coef(&total[..16], 1_000_000_000_000));
+    assert!(rt; have_coef(&total[16..48], -1_000_000_000_000));
+    assert!(rt; have_coef(&total[48..], 1_000_000_000_000));
     assert_eq!(rt; rows[1025].terms().len(), 16);
-    assert!(rt;
-        rows[1025]
-            .terms()
-            .iter()
-            .all(|t| t.coef == 1_000_000_000_000)
-    );
-    assert_eq!(rt; rows[1057].terms().len(), 576);
-    assert!(rt;
-        rows[1057]
-            .terms()
-            .iter()
-            .all(|t| t.coef == -1_000_000_000_000)
-    );
-    assert_eq!(rt; rows[1057].least(), -1_000_000_000_000_000);
+    assert!(rt; have_coef(rows[1025].terms(), 1_000_000_000_000));
+    assert_eq!(rt; rows[1057].terms().len(), 32);
+    assert!(rt; have_coef(rows[1057].terms(), -1_000_000_000_000));
+    assert_eq!(rt; rows[1073].terms().len(), 576);
+    assert!(rt; have_coef(rows[1073].terms(), -1_000_000_000_000));
+    assert_eq!(rt; rows[1073].least(), -1_000_000_000_000_000);
+    Ok(())
+}
+
+// At least one of a type.
+fn one_of(of: u32) -> Pattern {
+    Pattern::Count {
+        of,
+        min: 1,
+        max: None,
+    }
+}
+
+// A cube with one more variable at 0.
+fn without(mut cube: Cube, v: VarId) -> Cube
+    requires { v.0 < MEMBERS }
+{
+    if !cube.fixed().has(v) {
+        cube.fix(v, false);
+    }
+    cube
+}
+
+// Of two sources at least one is present: x_0 + x_1 >= 1.
+#[test]
+fn a_base_row_is_judged(rt: HostRuntime) -> Result<(), Fail> {
+    let types = [row("p", Role::Source, 2, 3, 0, 0)];
+    let problem = problem_of(rt.alloc(), library(&rt, &types, &[], &[one_of(0)], &[])?)?;
+    let cuts = CutList::new(rt.alloc());
+    let known = Known {
+        problem: &problem,
+        cuts: &cuts,
+        upto: 0,
+        bound: None,
+    };
+    let r = RowRef::Base(0);
+    assert!(rt; has(&known, r));
+    assert!(rt; !has(&known, RowRef::Base(1)));
+    assert!(rt; !has(&known, RowRef::Cost));
+    let one = without(Cube::whole(), VarId(0));
+    let cases = [
+        (Cube::whole(), 2, false, None, true),
+        (one, 1, false, Some((VarId(1), true)), false),
+        (without(one, VarId(1)), 0, true, None, false),
+    ];
+    for (cube, most, fails, forced, still) in cases {
+        assert_eq!(rt; greatest(&known, r, &cube), most);
+        assert_eq!(rt; refuted(&known, r, &cube), fails);
+        assert_eq!(rt; forces(&known, r, &cube), forced);
+        assert_eq!(rt; quiet(&known, &cube), still);
+    }
+    Ok(())
+}
+
+// Two sources of cost 3 and a cost below 3: -3 x_0 - 3 x_1 >= -2.
+#[test]
+fn the_cost_row_is_judged(rt: HostRuntime) -> Result<(), Fail> {
+    let types = [row("p", Role::Source, 2, 3, 0, 0)];
+    let problem = problem_of(rt.alloc(), library(&rt, &types, &[], &[one_of(0)], &[])?)?;
+    let cuts = CutList::new(rt.alloc());
+    let known = Known {
+        problem: &problem,
+        cuts: &cuts,
+        upto: 0,
+        bound: Some(3),
+    };
+    let r = RowRef::Cost;
+    let whole = Cube::whole();
+    assert!(rt; has(&known, r));
+    assert_eq!(rt; greatest(&known, r, &whole), 0);
+    assert!(rt; !refuted(&known, r, &whole));
+    assert_eq!(rt; forces(&known, r, &whole), Some((VarId(0), false)));
+    assert!(rt; !quiet(&known, &whole));
+    Ok(())
+}
+
+// Twelve types of two sources of cost 10, of each type at least one.
+fn twelve_types(rt: &(impl Abort + AllocGlobal)) -> Result<Library, Memory> {
+    let types = [
+        row("a", Role::Source, 2, 10, 0, 0),
+        row("b", Role::Source, 2, 10, 0, 0),
+        row("c", Role::Source, 2, 10, 0, 0),
+        row("d", Role::Source, 2, 10, 0, 0),
+        row("e", Role::Source, 2, 10, 0, 0),
+        row("f", Role::Source, 2, 10, 0, 0),
+        row("g", Role::Source, 2, 10, 0, 0),
+        row("h", Role::Source, 2, 10, 0, 0),
+        row("i", Role::Source, 2, 10, 0, 0),
+        row("j", Role::Source, 2, 10, 0, 0),
+        row("k", Role::Source, 2, 10, 0, 0),
+        row("l", Role::Source, 2, 10, 0, 0),
+    ];
+    let mut patterns = Vec::new(rt.alloc());
+    for of in 0..12 {
+        patterns.push(one_of(of))?;
+    }
+    library(rt, &types, &[], &patterns, &[])
+}
+
+// The reason of some pairs.
+fn reason_of(rt: &impl Abort, pairs: Vec<Pair>) -> Reason {
+    assert!(rt; pairs.len() >= 1);
+    assert!(rt; pairs.len() <= 64);
+    assert!(rt; pairs.iter().all(|p| p.times >= 1));
+    assert!(rt; pairs.iter().all(|p| p.times <= 1_000_000_000_000));
+    Reason::new(pairs)
+}
+
+// Whether the rows of a reason together are refuted in the whole cube.
+fn whole_is_refuted(rt: &impl Abort, known: &Known, reason: &Reason) -> bool {
+    let pairs = reason.pairs();
+    assert!(rt; pairs.iter().all(|p| has(known, p.row)));
+    together(known, reason, &Cube::whole())
+}
+
+// Ten times each of the twelve rows x_a + x_b >= 1, and once that the cost is below the bound: the
+// coefficients cancel, and 0 >= 121 - bound is left.
+#[test]
+fn rows_are_refuted_together(rt: HostRuntime) -> Result<(), Fail> {
+    let problem = problem_of(rt.alloc(), twelve_types(&rt)?)?;
+    let cuts = CutList::new(rt.alloc());
+    let mut pairs = Vec::new(rt.alloc());
+    for i in 0..12 {
+        pairs.push(Pair {
+            row: RowRef::Base(i),
+            times: 10,
+        })?;
+    }
+    pairs.push(Pair {
+        row: RowRef::Cost,
+        times: 1,
+    })?;
+    let reason = reason_of(&rt, pairs);
+    for (bound, fails) in [(120, true), (121, false)] {
+        let known = Known {
+            problem: &problem,
+            cuts: &cuts,
+            upto: 0,
+            bound: Some(bound),
+        };
+        assert_eq!(rt; whole_is_refuted(&rt, &known, &reason), fails);
+    }
     Ok(())
 }
 
