@@ -4,27 +4,26 @@ use Rattle.std.specs.Int.{w128}
 use Rattle.std.proofs.Math.IntN.{suc_ℤ-*ℤ, zero-*ℤ, *ℤ-zero}
 use Rattle.std.proofs.Math.Nat.{mul-le-mul_right}
 use Rattle.std.proofs.lemmas.Int.{ints, to_z-of_z, to_z_pos, fits_signed_from_abs, fits_signed_mul, unsigned_abs-mul}
-use Rattle.std.specs.List.{All, range_with_len}
+use Rattle.std.specs.List.{range_with_len}
 use Rattle.std.proofs.lemmas.List.{take_all}
 use Rattle.rows.specs.declared.row.Term.{Term}
 use Rattle.rows.specs.declared.known.Pair.{Pair}
 use Rattle.rows.specs.Parts.{RowParts, CubeParts, KnownParts}
-use Rattle.rows.specs.Row.{int_sum_by, term, coef_at, IsRow, IsSized}
+use Rattle.rows.specs.Row.{int_sum_by, term, coef_at}
 use Rattle.rows.specs.Reason.{row_of_pair, terms_times, empty_row, AllThere, IsReason, combination_of}
 use Rattle.rows.specs.Known.{row_at, variables}
 use Rattle.rows.specs.Cube.{value_at}
 use Rattle.rows.specs.Activity.{best_of, greatest_activity}
-use Rattle.rows.proofs.IntSums.{int_sum_by-append, int_sum_by-more, sized_sum}
-use Rattle.rows.proofs.Activities.{blank, plain, plain_to, best_of-sized}
-use Rattle.rows.proofs.Costs.{unlike, activity_collected}
-use Rattle.rows.proofs.WhatIsForced.{Rising, rising_from, coef_own}
+use Rattle.rows.proofs.IntSums.{int_sum_by-append, sized_sum}
+use Rattle.rows.proofs.Activities.{plain_to, best_of-sized}
+use Rattle.rows.proofs.Costs.{activity_collected}
 use Rattle.rows.specs.declared.known.RowRef.TheVariants.{Base}
 
 regroup : (x y a b : ℤ) → (x +ℤ y) +ℤ (a +ℤ b) ≡ (x +ℤ a) +ℤ (y +ℤ b)
 regroup x y a b = omega (arith, ints)
 
 -- a sum taken k times
-times_add : (k : ℕ) (a b : ℤ) → pos k *ℤ (a +ℤ b) ≡ (pos k *ℤ a) +ℤ (pos k *ℤ b)
+pub times_add : (k : ℕ) (a b : ℤ) → pos k *ℤ (a +ℤ b) ≡ (pos k *ℤ a) +ℤ (pos k *ℤ b)
 times_add zero a b = zero-*ℤ (a +ℤ b) ∙ sym (ap (λ z. z +ℤ (pos zero *ℤ b)) (zero-*ℤ a) ∙ ap (λ z. pos 0 +ℤ z) (zero-*ℤ b))
 times_add (suc n) a b =
     let both : pos (suc n) *ℤ (a +ℤ b) ≡ (pos n *ℤ (a +ℤ b)) +ℤ (a +ℤ b) = suc_ℤ-*ℤ (pos n) (a +ℤ b) in
@@ -92,19 +91,6 @@ scaled_small k a h small =
     ∙ to_z-of_z w128 (pos k *ℤ a) (fits_signed_mul w128 (pos k) a (10 ^ 12) (2 ^ 65) h small (omega arith)) in
     let size : k * unsigned_abs a ≤ 10 ^ 12 * unsigned_abs a = mul-le-mul_right (unsigned_abs a) h in
     rw (is, unsigned_abs-mul (pos k) a) size
-
--- the loop that looks for a coefficient
-pub coef_past : (xs : List Term) (i v : ℕ) → i < length xs → coef_at (take i xs) v ≡ pos 0 → ((get_or xs i blank).var.0 ≡ v → ⊥) → coef_at (take (i + 1) xs) v ≡ pos 0
-coef_past xs i v short before ne =
-    int_sum_by-more (λ t. if nat_eq t.var.0 v then t.coef else pos 0) xs i blank short ∙ ap (λ z. z +ℤ (if nat_eq (get_or xs i blank).var.0 v then (get_or xs i blank).coef else pos 0)) before
-    ∙ ap (λ b. pos 0 +ℤ (if b then (get_or xs i blank).coef else pos 0)) (unlike (get_or xs i blank).var.0 v ne)
-
-pub coef_hit : (row : RowParts) (xs : List Term) (i v : ℕ) → xs ≡ row.terms → IsRow row → i < length xs → (get_or xs i blank).var.0 ≡ v → to_z w128 (of_z w128 (get_or xs i blank).coef) ≡ coef_at row.terms v
-coef_hit row xs i v same ok short e =
-    let rising : Rising row.terms = rising_from row.terms ok.ascending in
-    let rising_xs : Rising xs = rw same rising in
-    let sized : All (λ t. IsSized t.coef) xs = rw same ok.sized in
-    plain (get_or xs i blank).coef (sized i blank short) ∙ sym (coef_own xs i blank rising_xs short) ∙ ap (coef_at xs) e ∙ ap (λ l. coef_at l v) same
 
 -- the sum over all items, at the end of a loop
 pub summed : {X : Type 0} (f : X → ℤ) (xs ys : List X) (i : ℕ) → xs ≡ ys → length xs ≤ i → int_sum_by f (take i xs) ≡ int_sum_by f ys

@@ -1,9 +1,12 @@
--- The cost row among the rows that are known.
-use Rattle.std.proofs.Common.{◌≡◌, ℕ, Option, Some, None, IfSome, option_map, subst, sym}
+-- The cost row and the cuts among the rows that are known.
+use Rattle.std.proofs.Common.{◌≡◌, ℕ, ◌<◌, List, take, length, slice_get, Option, Some, None, IfSome, option_map, subst, refl, sym, ◌∙◌, arith}
+use Rattle.std.proofs.lemmas.List.{length-take, get_or-take}
+use Rattle.std.proofs.lemmas.Option.{slice_get_within, get_or_from_slice_get}
 use Rattle.arch_model.specs.Parts.{LibraryParts}
 use Rattle.rows.specs.declared.known.RowRef.{RowRef}
-use Rattle.rows.specs.declared.known.RowRef.TheVariants.{Cost}
-use Rattle.rows.specs.Parts.{RowParts, KnownParts}
+use Rattle.rows.specs.declared.known.RowRef.TheVariants.{Cut, Cost}
+use Rattle.rows.specs.Parts.{RowParts, CutParts, KnownParts}
+use Rattle.rows.specs.Row.{row_of_cut}
 use Rattle.rows.specs.BaseRows.{cost_row_of}
 use Rattle.rows.specs.Known.{row_at}
 
@@ -14,3 +17,19 @@ for_bound P lib None each = tt
 
 pub of_cost_row : (P : RowParts → Type 0) (known : KnownParts) (r : RowRef) → r ≡ Cost → ((u : ℕ) → P (cost_row_of known.problem.library u)) → IfSome (row_at known r) P
 of_cost_row P known r is each = let family : RowRef → Type 0 = λ s. IfSome (row_at known s) P in subst family (sym is) (for_bound P known.problem.library known.bound each)
+
+-- a fact of the row of a cut is one of the row of its name
+front_same : {X : Type 0} (xs : List X) (n j : ℕ) (x y : X) → slice_get (take n xs) j ≡ Some x → slice_get xs j ≡ Some y → x ≡ y
+front_same xs n j x y e f =
+    let inside : j < length (take n xs) = slice_get_within (take n xs) j x e in
+    let short : j < n = omega (arith, length-take n xs, inside) in
+    sym (get_or_from_slice_get (take n xs) j x y e) ∙ get_or-take n xs j y short ∙ get_or_from_slice_get xs j y y f
+
+for_cut : (P : RowParts → Type 0) (known : Option CutParts) (cut : CutParts) → ((x : CutParts) → known ≡ Some x → x ≡ cut) → P (row_of_cut cut) → IfSome (option_map row_of_cut known) P
+for_cut P (Some x) cut same h = let family : CutParts → Type 0 = λ y. P (row_of_cut y) in subst family (sym (same x refl)) h
+for_cut P None cut same h = tt
+
+pub of_cut_row : (P : RowParts → Type 0) (known : KnownParts) (r : RowRef) (j : ℕ) (cut : CutParts) → r ≡ Cut j → slice_get known.cuts j ≡ Some cut → P (row_of_cut cut) → IfSome (row_at known r) P
+of_cut_row P known r j cut is at h =
+    let family : RowRef → Type 0 = λ s. IfSome (row_at known s) P in
+    subst family (sym is) (for_cut P (slice_get (take known.upto known.cuts) j) cut (λ x e. front_same known.cuts known.upto j x cut e at) h)

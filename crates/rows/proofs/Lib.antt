@@ -12,6 +12,7 @@ pub mod LeastForced
 pub mod QuietRows
 pub mod EmptyProblem
 pub mod Combinations
+pub mod AddedUp
 pub mod Collected
 pub mod AllParts
 pub mod EdgeRows

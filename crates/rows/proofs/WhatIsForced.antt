@@ -409,8 +409,11 @@ refuted_from g l h = let e : (g -ℤ l) <ℤ pos 0 = grind (arith, ints) in let 
 stands_from : (g l : ℤ) → int_lt (g -ℤ l) (pos 0) ≡ false → int_lt g l ≡ false
 stands_from g l h = let e : pos 0 ≤ℤ (g -ℤ l) = grind (arith, ints) in let f : l ≤ℤ g = omega (arith, ints) in grind (arith, ints)
 
+pub refuted_without_room : (row : RowParts) (cube : CubeParts) (room : ℤ) → room ≡ room_of row cube → int_lt room (pos 0) ≡ true → is_refuted row cube ≡ true
+refuted_without_room row cube room e h = refuted_from (greatest_activity row cube) row.least (sym (ap (λ z. int_lt z (pos 0)) e) ∙ h)
+
 pub roomless : (row : RowParts) (cube : CubeParts) (room : ℤ) → room ≡ room_of row cube → int_lt room (pos 0) ≡ true → None ≡ least_forced row cube
-roomless row cube room e h = refuted_none row cube (refuted_from (greatest_activity row cube) row.least (sym (ap (λ z. int_lt z (pos 0)) e) ∙ h))
+roomless row cube room e h = refuted_none row cube (refuted_without_room row cube room e h)
 
 pub stands_with_room : (row : RowParts) (cube : CubeParts) (room : ℤ) → room ≡ room_of row cube → int_lt room (pos 0) ≡ false → is_refuted row cube ≡ false
 stands_with_room row cube room e h = stands_from (greatest_activity row cube) row.least (sym (ap (λ z. int_lt z (pos 0)) e) ∙ h)

@@ -10,3 +10,4 @@ pub mod Trace
 pub mod Reason
 pub mod Ascent
 pub mod Problem
+pub mod Sums

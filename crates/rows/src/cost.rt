@@ -35,7 +35,7 @@ pub fn member_cost(lib: &Library, v: VarId) -> u64
 }
 
 // The greatest value of the cost row's sum, which is the same for each bound.
-pub fn greatest_of_cost(lib: &Library, cube: &Cube) -> i128
+pub(crate) fn greatest_of_cost(lib: &Library, cube: &Cube) -> i128
     ensures value { (bound : ℕ) → result ≡ greatest_activity (cost_row_of lib.now bound) cube.now }
     ensures small { unsigned_abs result ≤ 2 ^ 118 }
 {

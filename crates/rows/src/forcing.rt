@@ -33,7 +33,7 @@ fn forced_to(fixed: bool, coef: i128, room: i128) -> Option<bool>
 }
 
 // The least variable that a row forces, from its room, which isn't negative.
-fn forced_by_row(row: &Row, cube: &Cube, room: i128) -> Option<(VarId, bool)>
+pub(crate) fn forced_by_row(row: &Row, cube: &Cube, room: i128) -> Option<(VarId, bool)>
     requires room { room ≡ room_of row.now cube.now }
     requires stands { is_refuted row.now cube.now ≡ false }
     ensures { option_map number_of result ≡ least_forced row.now cube.now }
@@ -48,7 +48,7 @@ fn forced_by_row(row: &Row, cube: &Cube, room: i128) -> Option<(VarId, bool)>
 }
 
 // The same for a cut: without room each free variable is forced, with room none is.
-fn forced_by_cut(cut: &CutRow, cube: &Cube, room: i128) -> Option<(VarId, bool)>
+pub(crate) fn forced_by_cut(cut: &CutRow, cube: &Cube, room: i128) -> Option<(VarId, bool)>
     requires room { room ≡ room_of (row_of_cut cut.now) cube.now }
     requires stands { is_refuted (row_of_cut cut.now) cube.now ≡ false }
     ensures { option_map number_of result ≡ least_forced (row_of_cut cut.now) cube.now }
@@ -68,7 +68,7 @@ fn forced_by_cut(cut: &CutRow, cube: &Cube, room: i128) -> Option<(VarId, bool)>
 }
 
 // The same for the cost row.
-fn forced_by_cost(lib: &Library, cube: &Cube, room: i128) -> Option<(VarId, bool)>
+pub(crate) fn forced_by_cost(lib: &Library, cube: &Cube, room: i128) -> Option<(VarId, bool)>
     ensures { (bound : ℕ) → room ≡ room_of (cost_row_of lib.now bound) cube.now
         → is_refuted (cost_row_of lib.now bound) cube.now ≡ false
         → option_map number_of result ≡ least_forced (cost_row_of lib.now bound) cube.now }
@@ -84,7 +84,7 @@ fn forced_by_cost(lib: &Library, cube: &Cube, room: i128) -> Option<(VarId, bool
 }
 
 // The least variable that a row forces, whether it is refuted or not.
-pub fn forces_of_row(row: &Row, cube: &Cube) -> Option<(VarId, bool)>
+pub(crate) fn forces_of_row(row: &Row, cube: &Cube) -> Option<(VarId, bool)>
     ensures first { option_map number_of result ≡ least_forced row.now cube.now }
     ensures least { IfSome result (λ p. IsLeastForced row.now cube.now p.0.0 p.1) }
     ensures none { IfNone result (ForcesNothing row.now cube.now) }
@@ -97,7 +97,7 @@ pub fn forces_of_row(row: &Row, cube: &Cube) -> Option<(VarId, bool)>
 }
 
 // The same for a cut.
-pub fn forces_of_cut(cut: &CutRow, cube: &Cube) -> Option<(VarId, bool)>
+pub(crate) fn forces_of_cut(cut: &CutRow, cube: &Cube) -> Option<(VarId, bool)>
     ensures first { option_map number_of result ≡ least_forced (row_of_cut cut.now) cube.now }
     ensures least { IfSome result (λ p. IsLeastForced (row_of_cut cut.now) cube.now p.0.0 p.1) }
     ensures none { IfNone result (ForcesNothing (row_of_cut cut.now) cube.now) }
@@ -110,7 +110,7 @@ pub fn forces_of_cut(cut: &CutRow, cube: &Cube) -> Option<(VarId, bool)>
 }
 
 // The same for the cost row.
-pub fn forces_of_cost(lib: &Library, bound: u64, cube: &Cube) -> Option<(VarId, bool)>
+pub(crate) fn forces_of_cost(lib: &Library, bound: u64, cube: &Cube) -> Option<(VarId, bool)>
     ensures first { option_map number_of result ≡ least_forced (cost_row_of lib.now bound) cube.now }
     ensures least { IfSome result (λ p. IsLeastForced (cost_row_of lib.now bound) cube.now p.0.0 p.1) }
     ensures none { IfNone result (ForcesNothing (cost_row_of lib.now bound) cube.now) }

@@ -31,7 +31,7 @@ pub fn has(known: &Known, r: RowRef) -> bool
 }
 
 // What a coefficient adds at most.
-pub fn best(value: Option<bool>, coef: i128) -> i128
+pub(crate) fn best(value: Option<bool>, coef: i128) -> i128
     ensures { result ≡ best_of value coef }
 {
     match value {
@@ -42,7 +42,7 @@ pub fn best(value: Option<bool>, coef: i128) -> i128
 }
 
 // The greatest value of a row's sum.
-pub fn greatest_of_row(row: &Row, cube: &Cube) -> i128
+pub(crate) fn greatest_of_row(row: &Row, cube: &Cube) -> i128
     ensures value { result ≡ greatest_activity row.now cube.now }
     ensures small { unsigned_abs result ≤ 2 ^ 118 }
 {
@@ -55,7 +55,7 @@ pub fn greatest_of_row(row: &Row, cube: &Cube) -> i128
 
 // The same for a cut: how many variables of the one set aren't at 0, less how many of the other are
 // at 1.
-pub fn greatest_of_cut(cut: &CutRow, cube: &Cube) -> i128
+pub(crate) fn greatest_of_cut(cut: &CutRow, cube: &Cube) -> i128
     ensures value { result ≡ greatest_activity (row_of_cut cut.now) cube.now }
     ensures small { unsigned_abs result ≤ 2 ^ 118 }
 {
@@ -80,7 +80,7 @@ pub fn greatest(known: &Known, r: RowRef, cube: &Cube) -> i128
 }
 
 // What a row's sum must come to at least.
-pub fn least_of(known: &Known, r: RowRef) -> i128
+pub(crate) fn least_of(known: &Known, r: RowRef) -> i128
     requires { IsTrue (has_row (parts_of known.now) r) }
     ensures value { IfSome (row_at (parts_of known.now) r) (λ row. result ≡ row.least) }
     ensures small { unsigned_abs result ≤ 2 ^ 65 }

@@ -2,14 +2,14 @@
 ghost use Rattle.std.specs.Prelude.{◌≡◌, ◌↔◌, IsTrue, map, take, option_map, option_to_list};
 ghost use Rattle.std.specs.List.{list_all};
 ghost use Rattle.rows.specs.Row.{row_of_cut};
-ghost use Rattle.rows.specs.Activity.{is_refuted, is_quiet_at};
+ghost use Rattle.rows.specs.Activity.{is_quiet_at};
 ghost use Rattle.rows.specs.BaseRows.{cost_row_of};
 ghost use Rattle.rows.specs.Known.{parts_of, known_rows, IsQuiet};
 
 use crate::cost::greatest_of_cost;
 use crate::cube::Cube;
 use crate::cut::{CutList, CutRow};
-use crate::forcing::{forces_of_cost, forces_of_cut, forces_of_row};
+use crate::forcing::{forced_by_cost, forced_by_cut, forced_by_row};
 use crate::judge::{greatest_of_cut, greatest_of_row};
 use crate::known::Known;
 use crate::row::Row;
@@ -19,28 +19,33 @@ use arch_model::Library;
 fn row_is_quiet(row: &Row, cube: &Cube) -> bool
     ensures { result ≡ is_quiet_at cube.now row.now }
 {
-    greatest_of_row(row, cube) >= row.least() && forces_of_row(row, cube).is_none()
+    let room = greatest_of_row(row, cube) - row.least();
+    if room < 0 {
+        return false;
+    }
+    forced_by_row(row, cube, room).is_none()
 }
 
 // The same for a cut.
 fn cut_is_quiet(cut: &CutRow, cube: &Cube) -> bool
     ensures { result ≡ is_quiet_at cube.now (row_of_cut cut.now) }
 {
-    greatest_of_cut(cut, cube) >= cut.least() && forces_of_cut(cut, cube).is_none()
+    let room = greatest_of_cut(cut, cube) - cut.least();
+    if room < 0 {
+        return false;
+    }
+    forced_by_cut(cut, cube, room).is_none()
 }
 
-// Whether the cost row of a bound is refuted.
-fn cost_is_refuted(lib: &Library, bound: u64, cube: &Cube) -> bool
-    ensures { result ≡ is_refuted (cost_row_of lib.now bound) cube.now }
-{
-    greatest_of_cost(lib, cube) < 1 - bound as i128
-}
-
-// Whether it is quiet.
+// The same for the cost row of a bound.
 fn cost_is_quiet(lib: &Library, bound: u64, cube: &Cube) -> bool
     ensures { result ≡ is_quiet_at cube.now (cost_row_of lib.now bound) }
 {
-    !cost_is_refuted(lib, bound, cube) && forces_of_cost(lib, bound, cube).is_none()
+    let room = greatest_of_cost(lib, cube) - (1 - bound as i128);
+    if room < 0 {
+        return false;
+    }
+    forced_by_cost(lib, cube, room).is_none()
 }
 
 // Whether all rows of a list are quiet.

@@ -1,4 +1,4 @@
-use Rattle.std.proofs.Common.{◌≡◌, ◌*◌, ◌^◌, ◌<◌, ap, ◌∙◌, arith, FitsSigned, rules}
+use Rattle.std.proofs.Common.{◌≡◌, ◌*◌, ◌^◌, ◌<◌, ap, ◌∙◌, arith, FitsSigned, rules, ℤ, pos, get_or, subst}
 use Rattle.std.specs.Int.{w128}
 use Rattle.std.specs.List.{range_with_len}
 use Rattle.std.proofs.lemmas.Int.{to_z-of_z}
@@ -12,8 +12,10 @@ use Rattle.rows.proofs.together_of.together.Goals as goal
 
 pub loop-i-preserved : goal.loop-i-preserved
 loop-i-preserved c =
-    let is = best_turn c.combined_coef.result _ c.value.result _ c.best-total.result c.combined_coef.ensures.small c.combined_coef.ensures.value c.value.ensures c.best-total.ensures in
-    let small = best_small c.combined_coef.result c.value.result c.best-total.result c.combined_coef.ensures.small c.best-total.ensures in
+    let short : c.loop-i.i < variables (parts_of c.args.known.now) = subst (λ n. c.loop-i.i < n) (c.variable_count-i-end.ensures.count ∙ ap member_count c.library.ensures.library) c.loop-i-test.true in
+    let coef : ℤ = get_or c.combined_coefs-coefs.result c.loop-i.i (pos 0) in
+    let is = best_turn coef _ c.value.result _ c.best-total.result (c.combined_coefs-coefs.ensures.small c.loop-i.i short) (c.combined_coefs-coefs.ensures.value c.loop-i.i short) c.value.ensures c.best-total.ensures in
+    let small = best_small coef c.value.result c.best-total.result (c.combined_coefs-coefs.ensures.small c.loop-i.i short) c.best-total.ensures in
     let room : c.variable_count-i-end.result * (64 * 10 ^ 28) < 2 ^ 127 = omega (arith, c.variable_count-i-end.ensures.few) in
     record {
       sum = range_step (combined_best (parts_of c.args.known.now) c.args.reason.now c.args.cube.now) c.loop-i.i _ c.best-total.result _ c.loop-i.invariant.sum is
