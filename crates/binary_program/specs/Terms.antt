@@ -1,4 +1,4 @@
--- Variables and terms of a row before they are added up.
+-- For the code's own contracts: variables and terms of a row before they are added up.
 use Rattle.std.specs.Prelude.{ℕ, ◌≤◌, ◌<◌, ◌^◌, Bool, ◌&&◌, nat_eq, List, map, length, unsigned_abs}
 use Rattle.std.specs.List.{All}
 use Rattle.arch_model.specs.declared.sets.VarId.{VarId}
