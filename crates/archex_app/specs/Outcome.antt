@@ -1,4 +1,4 @@
--- What a library's bytes come to.
+-- For the code's own contracts: what a library's bytes come to.
 use Rattle.std.specs.Prelude.{ℕ, List, string_bytes}
 use Rattle.archex_app.specs.declared.solve.Outcome.{Outcome}
 use Rattle.archex_app.specs.declared.solve.Outcome.TheVariants.{Optimal, Infeasible, Refused}

@@ -1,4 +1,4 @@
--- What was read of a file so far.
+-- For the code's own contracts: what was read of a file so far.
 use Rattle.std.specs.Prelude.{◌≡◌, ℕ, ◌≤◌, Option, List, take, length, IfSome}
 
 -- the front of a file, where its bytes are told

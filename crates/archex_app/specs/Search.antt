@@ -1,4 +1,4 @@
--- What the search keeps, cube by cube.
+-- For the code's own contracts: what the search keeps, cube by cube.
 use Rattle.std.specs.Prelude.{◌≡◌, ℕ, ◌≤◌, Option}
 use Rattle.std.specs.Option.{IsSomeAnd}
 use Rattle.arch_model.specs.Parts.{LibraryParts}
