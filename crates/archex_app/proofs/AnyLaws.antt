@@ -1,8 +1,7 @@
 -- Whether some item of a list passes a test, item by item.
-use Rattle.std.proofs.Common.{◌≡◌, ℕ, zero, suc, ◌+◌, ◌<◌, ◌≤◌, Bool, true, false, ◌||◌, List, [], ◌∷◌, length, take, refl, sym, ap, ◌∙◌, arith, add-one}
+use Rattle.std.proofs.Common.{◌≡◌, ℕ, zero, suc, ◌+◌, ◌<◌, Bool, true, false, ◌||◌, List, [], ◌∷◌, length, take, refl, sym, ap, ◌∙◌, arith, add-one}
 use Rattle.std.specs.Prelude.{IfSome, slice_get}
 use Rattle.std.specs.List.{list_any}
-use Rattle.std.proofs.lemmas.List.{take_all}
 use Rattle.arch_model.proofs.Members.{or_left, or_right}
 
 -- an item that passes
@@ -31,7 +30,3 @@ any_past p (x ∷ xs) (suc i) r short before is off =
     let rest = any_past p xs i r within (second_off (p x) (list_any p (take i xs)) before) is off in
     ap (λ n. list_any p (take n (x ∷ xs))) (add-one (suc i))
     ∙ both_off (p x) (list_any p (take (suc i) xs)) (first_off (p x) (list_any p (take i xs)) before) (sym (ap (λ n. list_any p (take n xs)) (add-one i)) ∙ rest)
-
--- none of all
-pub any_none : {X : Type 0} (p : X → Bool) (xs : List X) (i : ℕ) → length xs ≤ i → list_any p (take i xs) ≡ false → list_any p xs ≡ false
-any_none p xs i far none = sym (ap (list_any p) (take_all i xs far)) ∙ none
