@@ -1,19 +1,19 @@
 -- What a search over rows finds: the paths, and what leads to a sink.
-use Rattle.std.proofs.Common.{◌≡◌, ℕ, ◌<◌, Bool, true, false, not, ◌&&◌, ◌||◌, nat_eq, List, [], ◌∷◌, length, sym, ap, ◌∙◌, subst, arith, inl, inr}
+use Rattle.std.proofs.Common.{◌≡◌, ℕ, ◌<◌, ◌≤◌, Bool, true, false, not, ◌&&◌, ◌||◌, nat_eq, List, [], ◌∷◌, length, sym, ap, ◌∙◌, subst, arith, inl, inr}
 use Rattle.std.specs.List.{All, list_any}
 use Rattle.std.specs.Prelude.{IsTrue, ◌↔◌}
 use Rattle.std.proofs.lemmas.Bool.{eqb-true, eq-eqb}
 use Rattle.arch_model.specs.declared.limits.TheConstants.{COMPONENTS}
 use Rattle.arch_model.specs.declared.template.Edge.{Edge}
-use Rattle.arch_model.specs.Set.{Set, has, put, empty, union}
+use Rattle.arch_model.specs.Set.{Set, has, put, empty, union, members_below}
 use Rattle.arch_model.specs.Parts.{LibraryParts, ArchitectureParts}
 use Rattle.arch_model.specs.Library.{IsLibrary}
 use Rattle.arch_model.specs.Architecture.{IsArchitecture}
 use Rattle.arch_model.specs.Path.{is_source, is_up, live_edges, joins, LeadsTo, IsPath, IsWalk}
-use Rattle.arch_model.proofs.Members.{and_right, and_both, or_left, or_right, or_cases}
+use Rattle.arch_model.proofs.Members.{and_right, and_both, or_left, or_right, or_cases, some_of, any_of, is_in-members, has-from_members}
 use Rattle.arch_model.proofs.SetLaws.{has-put, has-empty, has-union}
 use Rattle.arch_model.proofs.Ranges.{edge_tails, edge_heads}
-use Rattle.arch_model.proofs.Reaching.{walk_or_path, joins_tail}
+use Rattle.arch_model.proofs.Reaching.{walk_or_path, joins_tail, joins_head}
 use Rattle.arch_model.proofs.Walks.{walk_map}
 use Rattle.paths.specs.declared.adjacency.Way.{Way}
 use Rattle.paths.specs.declared.adjacency.Way.TheVariants.{Down, Up}
@@ -91,6 +91,33 @@ module _ (lib : LibraryParts) (arch : ArchitectureParts) (failed : Set) where
 
     pub ancestors_exact : (c : ℕ) → ((rest : List ℕ) × IsWalk (has first) (has up) (is_next rows) c rest) ↔ ((rest : List ℕ) × LeadsTo lib arch sink (has failed) (c ∷ rest))
     ancestors_exact c = ((λ w. (w.0, leads_of c w.0 w.1)), (λ l. (l.0, walk_back c l.0 l.1)))
+
+  -- one step down, and one up
+  module _ (fits : IsArchitecture lib arch) (few : length lib.components ≤ COMPONENTS) (from found up : Set) (rows : List Set) (all : up ≡ arch.comps) (c : ℕ)
+      (steps : has found c ≡ (has up c && list_any (λ a. is_next rows a c) (members_below from COMPONENTS))) where
+    found_one : has found c ≡ true → (b : ℕ) × (has from b ≡ true) × (is_next rows b c ≡ true)
+    found_one h =
+        let b = some_of (λ a. is_next rows a c) (members_below from COMPONENTS) (and_right (has up c) _ (sym steps ∙ h)) in
+        (b.0, has-from_members from COMPONENTS b.0 b.1, b.2)
+
+    one_found : (b : ℕ) → has from b ≡ true → has arch.comps b ≡ true → has arch.comps c ≡ true → is_next rows b c ≡ true → has found c ≡ true
+    one_found b h here there next =
+        let short = fits.comps b here in
+        steps ∙ and_both (has up c) _ (ap (λ s. has s c) all ∙ there) (any_of (λ a. is_next rows a c) (members_below from COMPONENTS) b (is_in-members from COMPONENTS b h (omega (arith, short, few))) next)
+
+    pub down_exact : ((a d : ℕ) → is_next rows a d ≡ leads Down (live_edges lib arch (has failed)) a d)
+        → IsTrue (has found c) ↔ ((b : ℕ) × IsTrue (has from b) × IsTrue (joins (live_edges lib arch (has failed)) b c))
+    down_exact nexts = (
+      (λ h. let b = found_one h in (b.0, b.1, sym (nexts b.0 c) ∙ b.2)),
+      (λ b. one_found b.0 b.1 (joins_tail lib arch (has failed) fits b.0 c b.2) (joins_head lib arch (has failed) fits b.0 c b.2) (nexts b.0 c ∙ b.2)),
+    )
+
+    pub up_exact : ((a d : ℕ) → is_next rows a d ≡ leads Up (live_edges lib arch (has failed)) a d)
+        → IsTrue (has found c) ↔ ((d : ℕ) × IsTrue (has from d) × IsTrue (joins (live_edges lib arch (has failed)) c d))
+    up_exact nexts = (
+      (λ h. let d = found_one h in (d.0, d.1, turn d.0 c (sym (nexts d.0 c) ∙ d.2))),
+      (λ d. one_found d.0 d.1 (joins_head lib arch (has failed) fits c d.0 d.2) (joins_tail lib arch (has failed) fits c d.0 d.2) (nexts d.0 c ∙ turn_back d.0 c d.2)),
+    )
 
   -- the sink and the present components are in range
   pub with_sink : IsArchitecture lib arch → (sink : ℕ) (first both : Set) → sink < length lib.components → first ≡ put empty sink → both ≡ union arch.comps first → (c : ℕ) → IsTrue (has both c) → c < length lib.components

@@ -17,11 +17,15 @@
 #![tactic(auto)]
 
 mod adjacency;
+mod links;
 mod reaching;
 mod spreading;
 mod standing;
+mod stepping;
 
+pub use links::{Links, ancestors_over, links_of, reach_over};
 pub use reaching::{ancestors, parted, reach};
+pub use stepping::{predecessors, successors};
 
 #[cfg(test)]
 mod tests;

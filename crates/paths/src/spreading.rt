@@ -9,7 +9,7 @@ use arch_model::CompSet;
 use arch_model::limits::COMPONENTS;
 
 // The components that are up and in the row of one of some others.
-fn entered(rows: &[CompSet; COMPONENTS], up: &CompSet, from: &CompSet) -> CompSet
+pub(crate) fn entered(rows: &[CompSet; COMPONENTS], up: &CompSet, from: &CompSet) -> CompSet
     ensures { (c : ℕ) → set.has result c
         ≡ (set.has up.now c && list_any (λ a. is_next rows.now a c) (set.members_below from.now COMPONENTS)) }
 {

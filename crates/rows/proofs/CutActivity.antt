@@ -15,7 +15,7 @@ use Rattle.rows.specs.Cube.{IsCube, value_at}
 use Rattle.rows.specs.Activity.{best_of, greatest_activity}
 
 -- 1 or 0
-abbrev bit : Bool → ℤ
+abbrev pub bit : Bool → ℤ
 bit b = cond b (pos 1) (pos 0)
 
 -- what one variable adds, from whether it is in the two sets, fixed, and fixed to 1
@@ -44,7 +44,7 @@ longer : (b : Bool) (v : ℕ) (vs : List ℕ) → cond b (1 + length vs) (length
 longer true v vs = omega arith
 longer false v vs = refl
 
-count_bits : (a b : ℕ → Bool) (vs : List ℕ) → int_sum_by (λ v. bit (a v) -ℤ bit (b v)) vs ≡ pos (length (filter a vs)) -ℤ pos (length (filter b vs))
+pub count_bits : (a b : ℕ → Bool) (vs : List ℕ) → int_sum_by (λ v. bit (a v) -ℤ bit (b v)) vs ≡ pos (length (filter a vs)) -ℤ pos (length (filter b vs))
 count_bits a b [] = refl
 count_bits a b (v ∷ vs) =
     counted (a v) (b v) _ (length (filter a vs)) (length (filter b vs)) (count_bits a b vs)

@@ -127,7 +127,7 @@ cut_coef_at cut v short =
     coef_chosen (has (union cut.plus cut.minus)) (cut_coef cut) v 0 MEMBERS (omega arith) (omega arith)
     ∙ cut_coef_by (has (union cut.plus cut.minus) v) (cut_coef cut v) (λ out. cut_none_by (has cut.plus v) (has cut.minus v) (sym (has-union cut.plus cut.minus v) ∙ out))
 
-cut_rising : (cut : CutParts) → Rising (row_of_cut cut).terms
+pub cut_rising : (cut : CutParts) → Rising (row_of_cut cut).terms
 unfolding members_below
 cut_rising cut = rising_chosen (has (union cut.plus cut.minus)) (cut_coef cut) 0 MEMBERS
 

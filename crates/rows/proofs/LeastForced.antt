@@ -60,7 +60,7 @@ not_false false h = refl
 not_of_false : (b : Bool) → b ≡ false → not b ≡ true
 not_of_false b e = ap not e
 
-forces_from_test : (row : RowParts) (cube : CubeParts) (v : ℕ) (b : Bool) → forces row cube v b ≡ true → Forces row cube v b
+pub forces_from_test : (row : RowParts) (cube : CubeParts) (v : ℕ) (b : Bool) → forces row cube v b ≡ true → Forces row cube v b
 forces_from_test row cube v b h =
     let rest = and_right (not (is_refuted row cube)) (is_free cube v && is_refuted row (fixed_at cube v (not b))) h in
     record {
@@ -69,7 +69,7 @@ forces_from_test row cube v b h =
       other = and_right (is_free cube v) (is_refuted row (fixed_at cube v (not b))) rest;
     }
 
-test_from_forces : (row : RowParts) (cube : CubeParts) (v : ℕ) (b : Bool) → Forces row cube v b → forces row cube v b ≡ true
+pub test_from_forces : (row : RowParts) (cube : CubeParts) (v : ℕ) (b : Bool) → Forces row cube v b → forces row cube v b ≡ true
 test_from_forces row cube v b h =
     and_both (not (is_refuted row cube)) (is_free cube v && is_refuted row (fixed_at cube v (not b))) (not_of_false (is_refuted row cube) h.open_yet)
     (and_both (is_free cube v) (is_refuted row (fixed_at cube v (not b))) h.is_free h.other)
@@ -134,7 +134,7 @@ module _ (row : RowParts) (cube : CubeParts) where
   found_first : (v : ℕ) (b : Bool) → least_forced row cube ≡ Some (v, b) → (found (forces_any row cube) row.terms ≡ Some v) × (forces row cube v true ≡ b)
   found_first v b e = split (found (forces_any row cube) row.terms) (λ w. forces row cube w true) v b e
 
-  found_is_forced : (v : ℕ) (b : Bool) → least_forced row cube ≡ Some (v, b) → Forces row cube v b
+  pub found_is_forced : (v : ℕ) (b : Bool) → least_forced row cube ≡ Some (v, b) → Forces row cube v b
   found_is_forced v b e =
       let at = found_first v b e in
       forces_from_test row cube v b (value_from row cube v b (found_passes (forces_any row cube) row.terms v at.0) at.1)

@@ -10,6 +10,9 @@ pub mod ForcedTurns
 pub mod Ascending
 pub mod LeastForced
 pub mod QuietRows
+pub mod ForcedTimes
+pub mod ClosingLoops
+pub mod TraceLaws
 pub mod EmptyProblem
 pub mod Combinations
 pub mod AddedUp

@@ -58,7 +58,7 @@ value_other cube v w b ne =
     ap (λ f. if f then Some (has (if b then put cube.ones v else cube.ones) w) else None) (has-put_other cube.fixed v w ne)
     ∙ ap (λ o. if has cube.fixed w then Some o else None) (ones_other cube v w b ne)
 
-has-put_same : (s : Set) (v : ℕ) → has (put s v) v ≡ true
+pub has-put_same : (s : Set) (v : ℕ) → has (put s v) v ≡ true
 has-put_same s v = has-put s v v ∙ or_right (has s v) (nat_eq v v) (eq-eqb v v refl)
 
 free_fixed : (b : Bool) → not b ≡ true → b ≡ false

@@ -17,7 +17,7 @@ use arch_model::{Library, VarId};
 
 // To which value a variable is forced, from whether it is fixed, its coefficient and the room that
 // the row has.
-fn forced_to(fixed: bool, coef: i128, room: i128) -> Option<bool>
+pub(crate) fn forced_to(fixed: bool, coef: i128, room: i128) -> Option<bool>
     requires { IsSized coef }
     ensures { result ≡ forced_value fixed coef room }
 {

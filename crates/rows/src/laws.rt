@@ -1,17 +1,20 @@
 //! Laws of rows, cubes and forcing, each the contract of a function without a body.
-ghost use Rattle.std.specs.Prelude.{◌≡◌, ◌↔◌, ℕ, ◌<◌, Bool, false, Some, None, map};
+ghost use Rattle.std.specs.Prelude.{◌≡◌, ◌↔◌, ℕ, ◌+◌, ◌<◌, Bool, false, Some, None, List, ◌++◌, map, length};
 ghost use Rattle.std.specs.List.{All};
 ghost use Rattle.std.specs.List.Sorted.{IsStrictlyIncreasing};
-ghost use Rattle.arch_model.specs.Set.{has};
+ghost use Rattle.arch_model.specs.Set.{has, len};
 ghost use Rattle.arch_model.specs.Parts.{LibraryParts, ArchitectureParts};
 ghost use Rattle.arch_model.specs.Library.{IsLibrary};
 ghost use Rattle.arch_model.specs.Architecture.{IsArchitecture, cost_of};
-ghost use Rattle.rows.specs.Parts.{RowParts, CutParts, CubeParts};
+ghost use Rattle.rows.specs.Parts.{RowParts, CutParts, CubeParts, KnownParts};
 ghost use Rattle.rows.specs.Row.{RowHolds, IsRowBelow, row_of_cut};
-ghost use Rattle.rows.specs.Cube.{IsCube, LiesIn, IsFull};
+ghost use Rattle.rows.specs.Cube.{IsCube, IsCubeBelow, LiesIn, IsFull};
 ghost use Rattle.rows.specs.Activity.{IsRefuted, is_refuted, Forces, ForcesNothing, least_forced, IsLeastForced};
 ghost use Rattle.rows.specs.BaseRows.{edge_rows, cost_row_of};
-ghost use Rattle.rows.specs.Problem.{IsVectorOf};
+ghost use Rattle.rows.specs.declared.known.RowRef.{RowRef};
+ghost use Rattle.rows.specs.Known.{known_rows, variables, IsKnown};
+ghost use Rattle.rows.specs.Problem.{IsProblem, IsVectorOf};
+ghost use Rattle.rows.specs.Trace.{cube_after};
 
 /// A vector that meets a row lies in no cube where the row is refuted.
 pub fn refuted_rows_hold_nowhere()
@@ -61,4 +64,28 @@ pub fn edge_rows_ask_for_ends()
 pub fn the_cost_row_bounds_the_cost()
     ensures { (lib : LibraryParts) (arch : ArchitectureParts) (x : ℕ → Bool) → IsVectorOf lib arch x → (u : ℕ)
         → RowHolds (cost_row_of lib u) x ↔ (cost_of lib arch < u) }
+{}
+
+/// A vector that meets every row that is known stays in the cube: a legal trace from a cube in
+/// which it lies leads to one in which it lies.
+pub fn traces_keep_vectors()
+    ensures { (known : KnownParts) (cube next : CubeParts) (trace : List RowRef) (x : ℕ → Bool) → IsCube cube
+        → cube_after known cube trace ≡ Some next → All (λ row. RowHolds row x) (known_rows known)
+        → LiesIn x cube → LiesIn x next }
+{}
+
+/// A legal trace over the program's variables stays among them, and fixes one variable a step.
+pub fn traces_fix_one_a_step()
+    ensures below { (known : KnownParts) (cube next : CubeParts) (trace : List RowRef) → IsProblem known.problem
+        → IsKnown known → cube_after known cube trace ≡ Some next → IsCubeBelow (variables known) cube
+        → IsCubeBelow (variables known) next }
+    ensures count { (known : KnownParts) (n : ℕ) (cube next : CubeParts) (trace : List RowRef) → IsCubeBelow n next
+        → cube_after known cube trace ≡ Some next → len next.fixed ≡ len cube.fixed + length trace }
+{}
+
+/// One legal trace after another is a legal trace.
+pub fn traces_join()
+    ensures { (known : KnownParts) (first second : List RowRef) (a b c : CubeParts)
+        → cube_after known a first ≡ Some b → cube_after known b second ≡ Some c
+        → cube_after known a (first ++ second) ≡ Some c }
 {}

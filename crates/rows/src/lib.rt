@@ -15,6 +15,7 @@
 //! `reserve` take memory.
 #![tactic(auto)]
 
+mod closing;
 mod cost;
 mod cube;
 mod cut;
@@ -27,6 +28,7 @@ mod quiet_cubes;
 mod row;
 mod together_of;
 
+pub use closing::fix_forced;
 pub use cost::{member_cost, variable_count};
 pub use cube::Cube;
 pub use cut::{CUTS, CutList, CutRow};

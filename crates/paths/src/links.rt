@@ -1,0 +1,87 @@
+// The edges of an architecture as a table, ready for many searches.
+ghost use Rattle.std.specs.Prelude.{◌≡◌, ℕ, ◌<◌, ◌&&◌, ◌↔◌, ◌∷◌, IsTrue, List, length};
+ghost use Rattle.std.specs.List.{list_any};
+ghost use Rattle.arch_model.specs.Set as set;
+ghost use Rattle.arch_model.specs.Architecture.{IsArchitecture};
+ghost use Rattle.arch_model.specs.Path.{IsPath, LeadsTo};
+ghost use Rattle.arch_model.specs.declared.limits.TheConstants.{COMPONENTS};
+ghost use Rattle.paths.specs.Spread.{is_next};
+ghost use Rattle.paths.specs.Links.{AreLinks};
+
+use crate::adjacency::{Way, rows_of};
+use crate::spreading::{closure, entered};
+use crate::standing::{outside, sources};
+use arch_model::limits::COMPONENTS;
+use arch_model::{Architecture, CompId, CompSet, Library, MemberSet};
+
+/// For each component those to which an edge leads from it, and those from which one leads to it.
+/// One pass over the edges makes the table, and a search over it looks at no edge again.
+#[derive(Clone, Copy)]
+pub struct Links {
+    down: [CompSet; COMPONENTS],
+    up: [CompSet; COMPONENTS],
+}
+
+/// The table of the present edges outside `failed`.
+pub fn links_of(lib: &Library, arch: &Architecture, failed: &MemberSet) -> Links
+    requires { IsArchitecture lib.now arch.now }
+    ensures { AreLinks lib.now arch.now (set.has failed.now) result }
+{
+    let n = lib.components().len() as u32;
+    let edges = arch.edges();
+    Links {
+        down: rows_of(lib.edges(), Way::Down, &edges, failed, n),
+        up: rows_of(lib.edges(), Way::Up, &edges, failed, n),
+    }
+}
+
+/// What `reach` answers, over a table of the edges outside `failed`.
+pub fn reach_over(lib: &Library, arch: &Architecture, links: &Links, failed: &MemberSet) -> CompSet
+    requires architecture { IsArchitecture lib.now arch.now }
+    requires links { AreLinks lib.now arch.now (set.has failed.now) links.now }
+    ensures { (c : ℕ) → IsTrue (set.has result c)
+        ↔ ((path : List ℕ) × IsPath lib.now arch.now c (set.has failed.now) path) }
+{
+    let components = lib.components();
+    let up = outside(&arch.comps(), components.len() as u32, failed);
+    closure(&links.down, &up, &sources(components, &up))
+}
+
+/// What `ancestors` answers, over a table of the edges outside `failed`.
+pub fn ancestors_over(
+    lib: &Library,
+    arch: &Architecture,
+    sink: CompId,
+    links: &Links,
+    failed: &MemberSet,
+) -> CompSet
+    requires architecture { IsArchitecture lib.now arch.now }
+    requires in_range { sink.0 < length lib.now.components }
+    requires links { AreLinks lib.now arch.now (set.has failed.now) links.now }
+    ensures { (c : ℕ) → IsTrue (set.has result c)
+        ↔ ((rest : List ℕ) × LeadsTo lib.now arch.now sink.0 (set.has failed.now) (c ∷ rest)) }
+{
+    let n = lib.components().len() as u32;
+    let mut first = CompSet::new();
+    first.put(sink);
+    let up = outside(&arch.comps().union(&first), n, failed);
+    closure(&links.up, &up, &first)
+}
+
+impl Links {
+    /// The present components to which one of the edges leads from one of some components.
+    pub fn heads(&self, arch: &Architecture, of: &CompSet) -> CompSet
+        ensures { (c : ℕ) → set.has result c
+            ≡ (set.has arch.now.comps c && list_any (λ a. is_next self.now.down a c) (set.members_below of.now COMPONENTS)) }
+    {
+        entered(&self.down, &arch.comps(), of)
+    }
+
+    /// The present components from which one of the edges leads to one of some components.
+    pub fn tails(&self, arch: &Architecture, of: &CompSet) -> CompSet
+        ensures { (c : ℕ) → set.has result c
+            ≡ (set.has arch.now.comps c && list_any (λ a. is_next self.now.up a c) (set.members_below of.now COMPONENTS)) }
+    {
+        entered(&self.up, &arch.comps(), of)
+    }
+}
