@@ -3,7 +3,7 @@ use Rattle.std.proofs.Common.{◌≡◌, ℕ, ◌+◌, ◌-◌, ◌≤◌, Optio
 use Rattle.std.proofs.Math.Seq.{take-add}
 use Rattle.std.proofs.lemmas.List.{take_all, length-take-le}
 use Rattle.outside.specs.Told.{Finds, Appends}
-use Rattle.archex_app.specs.Reading.{IsFront, IsWhole}
+use Rattle.archex_app.specs.Inner.Reading.{IsFront, IsWhole}
 
 -- one more piece of a file
 pub read_more : (told : Option (List ℕ)) (read into : List ℕ) (place n : ℕ) → place ≡ length read

@@ -15,7 +15,7 @@ use Rattle.archex_app.specs.Status.{IsStatus}
 use Rattle.archex_app.specs.Complete.{Solves, Completes}
 use Rattle.std.specs.Prelude.{MatchResult}
 use Rattle.std.proofs.Common.{◌≢◌}
-use Rattle.archex_app.specs.Outcome.{IsOutcome, text_of, status_of}
+use Rattle.archex_app.specs.Inner.Outcome.{IsOutcome, text_of, status_of}
 use Rattle.archex_app.specs.Answer.{ShowsAnswer, PrintsFront}
 
 not_both : {A E : Type 0} (r : Result A E) (x : A) → r ≡ Ok x → IsErr r → ⊥

@@ -24,7 +24,7 @@ use Rattle.binary_program.specs.CubeOf.{IsCubeOf}
 use Rattle.binary_program.proofs.RowCounts.{is_row_below}
 use Rattle.binary_program.proofs.CubeLaws.{same_architecture}
 use Rattle.archex_app.specs.declared.search.Found.{Found}
-use Rattle.archex_app.specs.Search.{IsKnownWithin}
+use Rattle.archex_app.specs.Inner.Search.{IsKnownWithin}
 
 -- the vector of an architecture's own members
 own_vector : (lib : LibraryParts) (arch : ArchitectureParts) → IsVectorOf lib arch (is_present lib arch)

@@ -12,7 +12,7 @@ use Rattle.lib_read.specs.LibraryOf.{library_of}
 use Rattle.lib_read.proofs.Unrequired.{no_requirements}
 use Rattle.archex_app.specs.Cheapest.{IsCheapest}
 use Rattle.archex_app.specs.declared.search.Found.{Found}
-use Rattle.archex_app.specs.Search.{IsFound}
+use Rattle.archex_app.specs.Inner.Search.{IsFound}
 
 -- an architecture that meets the patterns of a library that was read is one that is looked for, and the other way round
 none_required : (arch : ArchitectureParts) (rs : List Requirement) → rs ≡ [] → All (λ r. IsTrue (has arch.comps r.sink.0)) rs

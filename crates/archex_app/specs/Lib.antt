@@ -1,11 +1,8 @@
 pub mod Words
-pub mod Commands
 pub mod Cheapest
 pub mod Report
 pub mod Refusal
 pub mod Answer
-pub mod Outcome
 pub mod Status
 pub mod Complete
-pub mod Search
-pub mod Reading
+pub mod Inner

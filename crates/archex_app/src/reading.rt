@@ -1,7 +1,7 @@
 // Reading a file whole, up to a limit.
 ghost use Rattle.std.specs.Prelude.{◌≡◌, ℕ, ◌+◌, ◌≤◌, ◌<◌, List, take, length, IfSome, IfOk, OnOk, IsErrOf};
 ghost use Rattle.outside.specs.Faults.{Rose};
-ghost use Rattle.archex_app.specs.Reading.{IsFront, IsWhole};
+ghost use Rattle.archex_app.specs.Inner.Reading.{IsFront, IsWhole};
 
 use lib_read::LARGEST;
 use outside::{Failed, Shelf};

@@ -11,7 +11,7 @@ ghost use Rattle.rows.specs.Activity.{is_refuted};
 ghost use Rattle.rows.specs.BaseRows.{cost_row_of};
 ghost use Rattle.rows.specs.Cube.{FixesBelow, LiesIn};
 ghost use Rattle.rows.specs.Problem.{IsCandidate, IsVectorOf};
-ghost use Rattle.archex_app.specs.Search.{IsFound, IsKnownWithin};
+ghost use Rattle.archex_app.specs.Inner.Search.{IsFound, IsKnownWithin};
 
 use arch_model::limits::MEMBERS;
 use arch_model::{Architecture, VarId, cost};

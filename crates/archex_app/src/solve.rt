@@ -1,7 +1,7 @@
 // From a library's name to what is to be printed.
 ghost use Rattle.std.specs.Prelude.{◌≡◌, ℕ, ◌≤◌, List, IfOk, IfSome, IsErrOf};
 ghost use Rattle.outside.specs.Faults.{Rose};
-ghost use Rattle.archex_app.specs.Outcome.{IsOutcome, text_of, status_of};
+ghost use Rattle.archex_app.specs.Inner.Outcome.{IsOutcome, text_of, status_of};
 
 use crate::reading::{ReadError, read_file};
 use crate::refusal::refusal;

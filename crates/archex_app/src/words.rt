@@ -1,7 +1,7 @@
 // The words of a command.
 ghost use Rattle.std.specs.Prelude.{◌≡◌, ◌≤◌, Ok, Err, IfOk, IfErr};
 ghost use Rattle.archex_app.specs.Words.{texts, solve, command_of};
-ghost use Rattle.archex_app.specs.Commands.{asked};
+ghost use Rattle.archex_app.specs.Inner.Commands.{asked};
 
 /// What the words ask for.
 #[derive(Clone, Copy)]

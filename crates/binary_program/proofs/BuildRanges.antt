@@ -17,7 +17,7 @@ use Rattle.arch_model.proofs.Ranges.{blank_component, blank_edge}
 use Rattle.arch_model.proofs.RowReads.{supplies_small, demands_small, at_small}
 use Rattle.rows.specs.declared.row.Term.{Term}
 use Rattle.rows.specs.Row.{term}
-use Rattle.binary_program.specs.Terms.{numbers_of, AreVariables, AreTerms}
+use Rattle.binary_program.specs.Inner.Terms.{numbers_of, AreVariables, AreTerms}
 use Rattle.binary_program.proofs.BuildLists.{picked}
 use Rattle.binary_program.proofs.BuildTerms.{at_coef, number, balance, brought, asked}
 

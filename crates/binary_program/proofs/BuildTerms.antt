@@ -20,7 +20,7 @@ use Rattle.rows.specs.declared.row.Term.{Term}
 use Rattle.rows.specs.Row.{term}
 use Rattle.rows.specs.BaseRows.{costs_of, member_cost_of, cost_terms}
 use Rattle.binary_program.specs.declared.terms.EdgeKind.{EdgeKind}
-use Rattle.binary_program.specs.Terms.{numbers_of, AreVariables, is_of_kind}
+use Rattle.binary_program.specs.Inner.Terms.{numbers_of, AreVariables, is_of_kind}
 use Rattle.binary_program.proofs.BuildLists.{picked, picked_all, numbered_more}
 
 -- a variable from its number

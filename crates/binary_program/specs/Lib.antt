@@ -1,3 +1,3 @@
 pub mod CubeOf
 pub mod Says
-pub mod Terms
+pub mod Inner

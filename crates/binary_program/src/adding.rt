@@ -5,7 +5,7 @@ ghost use Rattle.std.specs.List.{All, enumerate_from};
 ghost use Rattle.arch_model.specs.Member.{member_count};
 ghost use Rattle.rows.specs.Row.{IsSized, coef_at, is_nonzero, row_of, term};
 ghost use Rattle.rows.specs.BaseRows.{member_row};
-ghost use Rattle.binary_program.specs.Terms.{AreTerms};
+ghost use Rattle.binary_program.specs.Inner.Terms.{AreTerms};
 
 use arch_model::limits::MEMBERS;
 use arch_model::{Library, Memory, VarId};

@@ -5,7 +5,7 @@ ghost use Rattle.arch_model.specs.Member.{member_count};
 ghost use Rattle.arch_model.specs.Template.{instances_of};
 ghost use Rattle.rows.specs.Row.{term};
 ghost use Rattle.rows.specs.BaseRows as base;
-ghost use Rattle.binary_program.specs.Terms.{numbers_of, AreVariables};
+ghost use Rattle.binary_program.specs.Inner.Terms.{numbers_of, AreVariables};
 
 use crate::adding::push_row;
 use crate::terms::{EdgeKind, edges, instances, minus_times, push_terms};

@@ -7,7 +7,7 @@ ghost use Rattle.arch_model.specs.Pattern as pattern;
 ghost use Rattle.arch_model.specs.Template.{instances_of};
 ghost use Rattle.rows.specs.Row.{term};
 ghost use Rattle.rows.specs.BaseRows as base;
-ghost use Rattle.binary_program.specs.Terms as spec;
+ghost use Rattle.binary_program.specs.Inner.Terms as spec;
 
 use arch_model::limits::{COMPONENTS, EDGES, MEMBERS};
 use arch_model::{CompId, Edge, Library, Memory, VarId, demand, is_instance, supply};

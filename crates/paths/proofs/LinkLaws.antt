@@ -6,8 +6,8 @@ use Rattle.arch_model.specs.Architecture.{present}
 use Rattle.arch_model.specs.Path.{live_edges}
 use Rattle.paths.specs.declared.adjacency.Way.TheVariants.{Down, Up}
 use Rattle.paths.specs.declared.links.Links.{Links}
-use Rattle.paths.specs.Spread.{leads}
-use Rattle.paths.specs.Links.{AreLinks}
+use Rattle.paths.specs.Inner.Spread.{leads}
+use Rattle.paths.specs.Inner.Links.{AreLinks}
 
 -- a table of edges is one where the same edges have failed
 pub links_beside : (lib : LibraryParts) (arch : ArchitectureParts) (f g : ℕ → Bool) (links : Links) → AreLinks lib arch f links → ((e : ℕ) → f (length lib.components + e) ≡ g (length lib.components + e)) → AreLinks lib arch g links

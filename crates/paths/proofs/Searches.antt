@@ -17,7 +17,7 @@ use Rattle.arch_model.proofs.Reaching.{walk_or_path, joins_tail, joins_head}
 use Rattle.arch_model.proofs.Walks.{walk_map}
 use Rattle.paths.specs.declared.adjacency.Way.{Way}
 use Rattle.paths.specs.declared.adjacency.Way.TheVariants.{Down, Up}
-use Rattle.paths.specs.Spread.{from_of, to_of, leads, live, is_next}
+use Rattle.paths.specs.Inner.Spread.{from_of, to_of, leads, live, is_next}
 
 -- both ends of a library's edges are below the limit
 pub froms : (lib : LibraryParts) → IsLibrary lib → (es : List Edge) → es ≡ lib.edges → (way : Way) → All (λ e. from_of way e < COMPONENTS) es

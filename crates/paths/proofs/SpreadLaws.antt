@@ -22,7 +22,7 @@ use Rattle.arch_model.proofs.SetLaws.{has-put, has-empty, has-union, has-interse
 use Rattle.arch_model.proofs.Ranges.{blank_edge, blank_component}
 use Rattle.arch_model.proofs.Walks.{level_next, level_first, level_inside, IsClosed, reached_exact, closed_at_last}
 use Rattle.paths.specs.declared.adjacency.Way.{Way}
-use Rattle.paths.specs.Spread.{source_at, from_of, to_of, leads, live, is_next, numbers_below}
+use Rattle.paths.specs.Inner.Spread.{source_at, from_of, to_of, leads, live, is_next, numbers_below}
 
 or_none : (b : Bool) → (b || false) ≡ b
 or_none true = refl

@@ -1,2 +1,1 @@
-pub mod Spread
-pub mod Links
+pub mod Inner

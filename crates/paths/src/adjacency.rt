@@ -2,7 +2,7 @@
 ghost use Rattle.std.specs.Prelude.{◌≡◌, ℕ, ◌+◌, ◌<◌, ◌≤◌, IsTrue, length};
 ghost use Rattle.std.specs.List.{All};
 ghost use Rattle.arch_model.specs.Set as set;
-ghost use Rattle.paths.specs.Spread.{from_of, to_of, leads, live, is_next};
+ghost use Rattle.paths.specs.Inner.Spread.{from_of, to_of, leads, live, is_next};
 
 use arch_model::limits::{COMPONENTS, EDGES};
 use arch_model::{CompId, CompSet, Edge, EdgeSet, MemberSet, VarId};

@@ -5,8 +5,8 @@ ghost use Rattle.arch_model.specs.Set as set;
 ghost use Rattle.arch_model.specs.Architecture.{IsArchitecture};
 ghost use Rattle.arch_model.specs.Path.{IsPath, LeadsTo};
 ghost use Rattle.arch_model.specs.declared.limits.TheConstants.{COMPONENTS};
-ghost use Rattle.paths.specs.Spread.{is_next};
-ghost use Rattle.paths.specs.Links.{AreLinks};
+ghost use Rattle.paths.specs.Inner.Spread.{is_next};
+ghost use Rattle.paths.specs.Inner.Links.{AreLinks};
 
 use crate::adjacency::{Way, rows_of};
 use crate::spreading::{closure, entered};

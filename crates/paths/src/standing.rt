@@ -2,7 +2,7 @@
 ghost use Rattle.std.specs.Prelude.{◌≡◌, ℕ, ◌<◌, ◌≤◌, ◌&&◌, not, length, IsTrue};
 ghost use Rattle.arch_model.specs.Set as set;
 ghost use Rattle.arch_model.specs.Path.{is_source_role};
-ghost use Rattle.paths.specs.Spread.{source_at};
+ghost use Rattle.paths.specs.Inner.Spread.{source_at};
 
 use arch_model::limits::COMPONENTS;
 use arch_model::{CompId, CompSet, Component, MemberSet, Role, VarId};

@@ -19,7 +19,7 @@ use Rattle.rows.specs.Known.{row_at}
 use Rattle.rows.specs.Reason.{row_of_pair, AllThere}
 use Rattle.rows.specs.Row.{int_sum_by, coef_at, cut_coef, IsRow, IsSized}
 use Rattle.rows.specs.BaseRows.{member_cost_of, cost_row_of}
-use Rattle.rows.specs.Sums.{AreAdded, AreWithin}
+use Rattle.rows.specs.Inner.Sums.{AreAdded, AreWithin}
 use Rattle.rows.proofs.Activities.{blank, plain, plain_to, minus_is, minus_sized}
 use Rattle.rows.proofs.IntSums.{int_sum_by-more, sized_sum}
 use Rattle.rows.proofs.Combinations.{adds_fit, adds_is, times_add, pair_coef, blank_pair, of_there}

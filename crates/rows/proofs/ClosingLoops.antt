@@ -17,7 +17,7 @@ use Rattle.rows.specs.Cut.{IsCut}
 use Rattle.rows.specs.Cube.{IsCube, is_free, fixed_at}
 use Rattle.rows.specs.BaseRows.{cost_row_of, member_cost_of, cost_terms}
 use Rattle.rows.specs.Activity.{is_refuted, least_forced, IsQuietAt}
-use Rattle.rows.specs.Room.{room_of, forced_value, after_times}
+use Rattle.rows.specs.Inner.Room.{room_of, forced_value, after_times}
 use Rattle.rows.proofs.Activities.{blank, minus_is}
 use Rattle.rows.proofs.Costs.{unlike}
 use Rattle.rows.proofs.WhatIsForced.{has-put_other, has-put_same, rising_collected}

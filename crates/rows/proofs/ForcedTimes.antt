@@ -13,7 +13,7 @@ use Rattle.rows.specs.Trace.{cube_after}
 use Rattle.rows.specs.Row.{IsRow, coef_at}
 use Rattle.rows.specs.Cube.{IsCube, is_free, fixed_at}
 use Rattle.rows.specs.Activity.{best_of, greatest_activity, is_refuted, Forces, forces, least_forced, IsQuietAt}
-use Rattle.rows.specs.Room.{room_of, after_times}
+use Rattle.rows.specs.Inner.Room.{room_of, after_times}
 use Rattle.rows.proofs.WhatIsForced.{Rising, rising_from, forces_any, forces_one, forces_zero, activity_fixed, room_is_some, find_past}
 use Rattle.rows.proofs.Activities.{blank}
 use Rattle.rows.proofs.LeastForced.{test_from_forces, found_is_forced, nothing_to}

@@ -14,7 +14,7 @@ use Rattle.rows.specs.Parts.{RowParts, CutParts, CubeParts}
 use Rattle.rows.specs.Row.{IsRow, IsSized, coef_at, is_nonzero, cut_coef, row_of_cut}
 use Rattle.rows.specs.Cube.{IsCube}
 use Rattle.rows.specs.Activity.{is_refuted, forces, least_forced}
-use Rattle.rows.specs.Room.{forced_value, room_of}
+use Rattle.rows.specs.Inner.Room.{forced_value, room_of}
 use Rattle.rows.proofs.Activities.{blank, plain, minus_is}
 use Rattle.rows.specs.BaseRows.{cost_row_of, cost_terms, member_cost_of}
 use Rattle.rows.proofs.Costs.{cost_coef}

@@ -9,7 +9,7 @@ use Rattle.std.proofs.lemmas.List.Folds.{list_all-map, list_all_more, list_all_a
 use Rattle.arch_model.proofs.Members.{and_left, and_right, and_both}
 use Rattle.arch_model.specs.declared.sets.VarId.{VarId}
 use Rattle.rows.specs.Parts.{RowParts, CubeParts}
-use Rattle.rows.specs.Room.{room_of, number_of}
+use Rattle.rows.specs.Inner.Room.{room_of, number_of}
 use Rattle.rows.specs.Activity.{is_refuted, least_forced, IsQuietAt, is_quiet_at}
 use Rattle.rows.proofs.WhatIsForced.{refuted_without_room}
 use Rattle.rows.proofs.LeastForced.{nothing_to, nothing_from}

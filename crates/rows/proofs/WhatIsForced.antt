@@ -16,7 +16,7 @@ use Rattle.rows.specs.Parts.{RowParts, CubeParts}
 use Rattle.rows.specs.Row.{int_sum_by, term, coef_at, is_nonzero, collected}
 use Rattle.rows.specs.Cube.{IsCube, value_at, is_free, fixed_at}
 use Rattle.rows.specs.Activity.{best_of, greatest_activity, is_refuted, Forces, forces, least_forced}
-use Rattle.rows.specs.Room.{forced_value, room_of}
+use Rattle.rows.specs.Inner.Room.{forced_value, room_of}
 use Rattle.rows.proofs.Costs.{unlike}
 
 -- terms that ascend by variable

@@ -3,11 +3,10 @@ pub mod Row
 pub mod Cut
 pub mod Cube
 pub mod Activity
-pub mod Room
 pub mod BaseRows
 pub mod Known
 pub mod Trace
 pub mod Reason
 pub mod Ascent
 pub mod Problem
-pub mod Sums
+pub mod Inner

@@ -4,7 +4,7 @@ ghost use Rattle.std.specs.Prelude.{IfSome, IfNone, IsTrue};
 ghost use Rattle.arch_model.specs.Member.{member_count};
 ghost use Rattle.rows.specs.Row.{IsRowBelow, row_of_cut};
 ghost use Rattle.rows.specs.Activity.{is_refuted, IsRefuted, IsQuietAt};
-ghost use Rattle.rows.specs.Room.{room_of, after_times};
+ghost use Rattle.rows.specs.Inner.Room.{room_of, after_times};
 ghost use Rattle.rows.specs.BaseRows.{cost_row_of};
 ghost use Rattle.rows.specs.Trace.{cube_after};
 ghost use Rattle.rows.specs.Known.{parts_of, has_row, row_at};

@@ -3,7 +3,7 @@ ghost use Rattle.std.specs.Prelude.{◌≡◌, ℕ, ◌≤◌, ◌^◌, pos, ◌
 ghost use Rattle.std.specs.Prelude.{option_map, IfSome, IfNone, IsTrue};
 ghost use Rattle.rows.specs.Row.{IsSized, row_of_cut};
 ghost use Rattle.rows.specs.Activity.{is_refuted, ForcesNothing, least_forced, IsLeastForced};
-ghost use Rattle.rows.specs.Room.{forced_value, room_of, number_of};
+ghost use Rattle.rows.specs.Inner.Room.{forced_value, room_of, number_of};
 ghost use Rattle.rows.specs.BaseRows.{cost_row_of};
 ghost use Rattle.rows.specs.Known.{parts_of, has_row, row_at};
 

@@ -5,7 +5,7 @@ ghost use Rattle.arch_model.specs.Member.{member_count};
 ghost use Rattle.rows.specs.Row.{int_sum_by, coef_at, row_of_cut};
 ghost use Rattle.rows.specs.Known.{parts_of, has_row, row_at, variables};
 ghost use Rattle.rows.specs.BaseRows.{cost_row_of};
-ghost use Rattle.rows.specs.Sums.{AreWithin, AreAdded};
+ghost use Rattle.rows.specs.Inner.Sums.{AreWithin, AreAdded};
 ghost use Rattle.rows.specs.Reason.{AllThere, row_of_pair, terms_times, is_together};
 
 use crate::cost::{member_cost, variable_count};

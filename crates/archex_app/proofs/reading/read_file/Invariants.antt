@@ -1,6 +1,6 @@
 use Rattle.std.proofs.Common.{◌≡◌, ℕ, ◌≤◌, ◌-◌, List, vec_len}
 use Rattle.archex_app.specs.declared.reading.TheConstants.{READ_LIMIT}
-use Rattle.archex_app.specs.Reading.{IsFront}
+use Rattle.archex_app.specs.Inner.Reading.{IsFront}
 use Rattle.archex_app.proofs.reading.read_file.Given as goal
 
 abbrev pub invariant-loop-shelf : goal.invariant-loop-shelf

@@ -4,7 +4,7 @@ use Rattle.arch_model.specs.Architecture.{cost_of}
 use Rattle.rows.specs.Parts.{ProblemParts}
 use Rattle.rows.specs.Problem.{IsCandidate}
 use Rattle.archex_app.specs.Report.{optimal_text}
-use Rattle.archex_app.specs.Search.{IsFound}
+use Rattle.archex_app.specs.Inner.Search.{IsFound}
 use Rattle.archex_app.proofs.Unrequired.{found_is_cheapest, none_meets}
 use Rattle.archex_app.proofs.solve.decide.Goals as goal
 

@@ -1,5 +1,5 @@
 use Rattle.std.proofs.Common.{List, ℕ, subst}
-use Rattle.archex_app.specs.Outcome.{IsOutcome}
+use Rattle.archex_app.specs.Inner.Outcome.{IsOutcome}
 use Rattle.archex_app.proofs.RunLaws.{whole_outcome}
 use Rattle.archex_app.proofs.solve.solve.Goals as goal
 

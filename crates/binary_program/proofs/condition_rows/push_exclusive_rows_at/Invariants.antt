@@ -1,5 +1,5 @@
 use Rattle.std.proofs.Common.{◌≡◌, ◌++◌, map, take}
-use Rattle.binary_program.specs.Terms.{numbers_of}
+use Rattle.binary_program.specs.Inner.Terms.{numbers_of}
 use Rattle.binary_program.proofs.BuildPatternRows.{none_where}
 use Rattle.binary_program.proofs.condition_rows.push_exclusive_rows_at.Given as goal
 

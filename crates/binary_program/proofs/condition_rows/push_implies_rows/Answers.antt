@@ -1,6 +1,6 @@
 use Rattle.std.proofs.Common.{ap, ◌∙◌}
 use Rattle.std.proofs.lemmas.Result.{on_ok_weaker}
-use Rattle.binary_program.specs.Terms.{numbers_of}
+use Rattle.binary_program.specs.Inner.Terms.{numbers_of}
 use Rattle.binary_program.proofs.BuildPatternRows.{implies_is}
 use Rattle.binary_program.proofs.condition_rows.push_implies_rows.Goals as goal
 

@@ -1,5 +1,5 @@
 use Rattle.std.proofs.Common.{get_or, ap, ◌∙◌}
-use Rattle.binary_program.specs.Terms.{numbers_of}
+use Rattle.binary_program.specs.Inner.Terms.{numbers_of}
 use Rattle.binary_program.proofs.BuildLists.{joined_number_more}
 use Rattle.binary_program.proofs.BuildTerms.{number, blank_var}
 use Rattle.binary_program.proofs.BuildPatternRows.{needs_out_at, needs_out_is}

@@ -1,6 +1,6 @@
 use Rattle.std.proofs.Common.{◌++◌, get_or, ap, ◌∙◌}
 use Rattle.rows.specs.BaseRows.{degree_rows}
-use Rattle.binary_program.specs.Terms.{numbers_of}
+use Rattle.binary_program.specs.Inner.Terms.{numbers_of}
 use Rattle.binary_program.proofs.BuildLists.{joined_number_more}
 use Rattle.binary_program.proofs.BuildTerms.{number, blank_var}
 use Rattle.binary_program.proofs.BuildPatternRows.{in_degree_at}

@@ -1,6 +1,6 @@
 use Rattle.std.proofs.Common.{◌≡◌, ◌++◌, take}
 use Rattle.std.specs.List.{flat_map}
-use Rattle.binary_program.specs.Terms.{numbers_of}
+use Rattle.binary_program.specs.Inner.Terms.{numbers_of}
 use Rattle.binary_program.proofs.BuildPatternRows.{out_degree_at}
 use Rattle.binary_program.proofs.degree_rows.push_out_degree_rows.Given as goal
 

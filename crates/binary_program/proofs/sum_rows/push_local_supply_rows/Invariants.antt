@@ -1,6 +1,6 @@
 use Rattle.std.proofs.Common.{◌≡◌, ◌++◌, map, take}
 use Rattle.rows.specs.BaseRows.{local_supply_row}
-use Rattle.binary_program.specs.Terms.{numbers_of}
+use Rattle.binary_program.specs.Inner.Terms.{numbers_of}
 use Rattle.binary_program.proofs.sum_rows.push_local_supply_rows.Given as goal
 
 abbrev pub invariant-loop-i : goal.invariant-loop-i

@@ -2,7 +2,7 @@ use Rattle.std.proofs.Common.{◌≡◌, map, take}
 use Rattle.std.specs.List.{enumerate_from}
 use Rattle.arch_model.specs.Member.{member_count}
 use Rattle.rows.specs.BaseRows.{costs_of}
-use Rattle.binary_program.specs.Terms.{AreTerms}
+use Rattle.binary_program.specs.Inner.Terms.{AreTerms}
 use Rattle.binary_program.proofs.BuildTerms.{minus_cost}
 use Rattle.binary_program.proofs.terms.cost_terms.Given as goal
 

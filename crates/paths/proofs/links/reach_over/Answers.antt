@@ -1,7 +1,7 @@
 use Rattle.std.proofs.Common.{◌∙◌, ap, ◌&&◌, not, List}
 use Rattle.arch_model.specs.Set.{Set, has}
 use Rattle.arch_model.specs.declared.template.Component.{Component}
-use Rattle.paths.specs.Spread.{source_at}
+use Rattle.paths.specs.Inner.Spread.{source_at}
 use Rattle.paths.proofs.Searches.{reach_exact, through}
 use Rattle.paths.proofs.links.reach_over.Goals as goal
 

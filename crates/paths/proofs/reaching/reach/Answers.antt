@@ -1,7 +1,7 @@
 use Rattle.std.proofs.Common.{◌∙◌, ap, length, ◌&&◌, not, List}
 use Rattle.arch_model.specs.Set.{Set, has}
 use Rattle.arch_model.specs.declared.template.Component.{Component}
-use Rattle.paths.specs.Spread.{source_at}
+use Rattle.paths.specs.Inner.Spread.{source_at}
 use Rattle.paths.specs.declared.adjacency.Way.TheVariants.{Down}
 use Rattle.paths.proofs.Searches.{froms, tos, rows_are, reach_exact, through}
 use Rattle.paths.proofs.reaching.reach.Goals as goal

@@ -1,7 +1,7 @@
 use Rattle.std.proofs.Common.{◌∙◌, ap, ◌&&◌}
 use Rattle.arch_model.specs.Set.{has}
 use Rattle.arch_model.proofs.Members.{and_left}
-use Rattle.paths.specs.Spread.{source_at}
+use Rattle.paths.specs.Inner.Spread.{source_at}
 use Rattle.paths.proofs.SpreadLaws.{collect_none, collect_more, collect_all, source_here, put_when, same_when}
 use Rattle.paths.proofs.standing.sources.Goals as goal
 use Rattle.paths.proofs.standing.sources.Goals.{then-is_live_source, else-is_live_source}

@@ -1,6 +1,6 @@
 use Rattle.std.proofs.Common.{◌≡◌, ℕ, ◌&&◌, ltb}
 use Rattle.arch_model.specs.Set.{has}
-use Rattle.paths.specs.Spread.{source_at}
+use Rattle.paths.specs.Inner.Spread.{source_at}
 use Rattle.paths.proofs.standing.sources.Given as goal
 
 abbrev pub invariant-loop-i : goal.invariant-loop-i

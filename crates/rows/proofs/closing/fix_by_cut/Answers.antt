@@ -3,7 +3,7 @@ use Rattle.std.specs.Int.{w128}
 use Rattle.std.proofs.lemmas.Int.{to_z-of_z}
 use Rattle.arch_model.specs.Set.{has, minus, union}
 use Rattle.rows.specs.Row.{row_of_cut}
-use Rattle.rows.specs.Room.{room_of}
+use Rattle.rows.specs.Inner.Room.{room_of}
 use Rattle.rows.proofs.WhatIsForced.{room_is_some}
 use Rattle.rows.proofs.ForcedTurns.{zero_room}
 use Rattle.rows.proofs.ClosingLoops.{cut_loop_start, cut_loop_free, cut_loop_hit, cut_loop_end, cut_with_room}

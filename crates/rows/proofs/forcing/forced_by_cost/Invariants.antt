@@ -1,6 +1,6 @@
 use Rattle.std.proofs.Common.{◌≡◌, ℕ, ◌<◌, pos, neg_ℤ, None}
 use Rattle.arch_model.specs.Set.{has}
-use Rattle.rows.specs.Room.{forced_value}
+use Rattle.rows.specs.Inner.Room.{forced_value}
 use Rattle.rows.specs.BaseRows.{member_cost_of}
 use Rattle.rows.proofs.forcing.forced_by_cost.Given as goal
 

@@ -3,7 +3,7 @@ use Rattle.std.specs.Int.{w128}
 use Rattle.arch_model.specs.Set.{has, union, minus}
 use Rattle.std.proofs.lemmas.Int.{to_z-of_z}
 use Rattle.rows.specs.Row.{row_of_cut}
-use Rattle.rows.specs.Room.{room_of}
+use Rattle.rows.specs.Inner.Room.{room_of}
 use Rattle.rows.proofs.WhatIsForced.{room_is_some}
 use Rattle.rows.proofs.ForcedTurns.{cut_idle, cut_first, roomy, tight_none, tight_some, lt_from, zero_room, free_of_cut}
 use Rattle.rows.proofs.forcing.forced_by_cut.Goals as goal

@@ -4,7 +4,7 @@ use Rattle.arch_model.specs.Member.{member_count}
 use Rattle.rows.specs.BaseRows.{cost_row_of}
 use Rattle.rows.specs.Row.{row_of_cut}
 use Rattle.rows.specs.Known.{parts_of, variables}
-use Rattle.rows.specs.Sums.{AreWithin, AreAdded}
+use Rattle.rows.specs.Inner.Sums.{AreWithin, AreAdded}
 use Rattle.rows.proofs.KnownRows.{of_cut_row, of_cost_row}
 use Rattle.rows.proofs.together_of.add_pair.Goals as goal
 

@@ -1,7 +1,7 @@
 use Rattle.std.proofs.Common.{◌≡◌, ℕ, ◌*◌, ◌^◌, ◌<◌, pos, get_or, take}
 use Rattle.rows.specs.Row.{int_sum_by}
 use Rattle.rows.specs.Known.{parts_of, variables}
-use Rattle.rows.specs.Sums.{AreWithin}
+use Rattle.rows.specs.Inner.Sums.{AreWithin}
 use Rattle.rows.proofs.Combinations.{pair_coef}
 use Rattle.rows.proofs.together_of.combined_coefs.Given as goal
 

@@ -4,7 +4,7 @@ use Rattle.arch_model.specs.Parts.{LibraryParts, ArchitectureParts}
 use Rattle.arch_model.specs.Path.{live_edges}
 use Rattle.paths.specs.declared.adjacency.Way.TheVariants.{Down, Up}
 use Rattle.paths.specs.declared.links.Links.{Links}
-use Rattle.paths.specs.Spread.{leads, is_next}
+use Rattle.paths.specs.Inner.Spread.{leads, is_next}
 
 -- a table of the edges that are present and not failed, both ways
 pub record AreLinks (lib : LibraryParts) (arch : ArchitectureParts) (failed : ℕ → Bool) (links : Links) : Type 0 where
