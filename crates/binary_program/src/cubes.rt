@@ -9,21 +9,10 @@ ghost use Rattle.rows.specs.Parts.{CubeParts};
 ghost use Rattle.binary_program.specs.CubeOf.{FixesAll, IsCubeOf};
 
 use arch_model::limits::{COMPONENTS, EDGES};
-use arch_model::{Architecture, CompId, CompSet, EdgeId, EdgeSet, Library, MemberSet, VarId};
+use arch_model::{
+    Architecture, CompId, CompSet, EdgeId, EdgeSet, Library, MemberSet, VarId, is_present,
+};
 use rows::{Cube, variable_count};
-
-// Whether a member is present in an architecture.
-fn is_present(lib: &Library, arch: &Architecture, v: VarId) -> bool
-    requires { v.0 < member.member_count lib.now }
-    ensures { result ≡ member.is_present lib.now arch.now v.0 }
-{
-    let components = lib.components().len() as u32;
-    if v.0 < components {
-        arch.comps().has(CompId(v.0))
-    } else {
-        arch.edges().has(EdgeId(v.0 - components))
-    }
-}
 
 /// The cube of an architecture: each member is fixed, to 1 where it is present and to 0 where it
 /// isn't. No other architecture of the library has this cube, so that `architecture_of` leads back.

@@ -60,7 +60,7 @@ int_sum_by-filter f p none [] = refl
 int_sum_by-filter f p none (x ∷ xs) = skipped f (p x) x (filter p xs) (none x) ∙ ap (λ s. f x +ℤ s) (int_sum_by-filter f p none xs)
 
 -- a loop over numbers: one more of them
-range_more : (a n j : ℕ) → a + n ≡ j → range_with_len a (suc n) ≡ range_with_len a n ++ j ∷ []
+pub range_more : (a n j : ℕ) → a + n ≡ j → range_with_len a (suc n) ≡ range_with_len a n ++ j ∷ []
 range_more a zero j e = let same : a ≡ j = omega arith in ap (λ v. v ∷ []) same
 range_more a (suc n) j e = let further : (a + 1) + n ≡ j = omega arith in ap (λ vs. a ∷ vs) (range_more (a + 1) n j further)
 

@@ -1,0 +1,4 @@
+pub mod RightCut
+pub mod CutRow
+pub mod Reaching
+pub mod ChosenCut
