@@ -1,5 +1,5 @@
 -- Steps of the loops over components and edges.
-use Rattle.std.proofs.Common.{eq-eqb, map, filter, subst, ◌++◌, ◌≡◌, ℕ, zero, suc, ◌+◌, ◌<◌, ◌≤◌, Bool, true, false, cond, not, ◌&&◌, ◌||◌, nat_eq, List, [], ◌∷◌, length, get_or, replicate, refl, sym, ap, ◌∙◌, arith, inl, inr, ◌≢◌, ltb, add-one, get_or-set_same, get_or-set_other}
+use Rattle.std.proofs.Common.{eq-eqb, slice_get, map, filter, subst, ◌++◌, ◌≡◌, ℕ, zero, suc, ◌+◌, ◌<◌, ◌≤◌, Bool, true, false, cond, not, ◌&&◌, ◌||◌, nat_eq, List, [], ◌∷◌, length, get_or, replicate, refl, sym, ap, ◌∙◌, arith, inl, inr, ◌≢◌, ltb, add-one, get_or-set_same, get_or-set_other}
 use Rattle.std.specs.List.{list_any, range_with_len, enumerate_from}
 use Rattle.std.specs.Prelude.{IsTrue, ◌↔◌}
 use Rattle.std.specs.Option.{option_map_or, unwrap_or}
@@ -16,14 +16,19 @@ use Rattle.arch_model.specs.declared.sets.CompId.{CompId}
 use Rattle.arch_model.specs.declared.sets.EdgeId.{EdgeId}
 use Rattle.std.proofs.lemmas.List.{map-append}
 use Rattle.arch_model.specs.Member.{is_in}
-use Rattle.arch_model.specs.Path.{is_source_role, reached_within}
+use Rattle.arch_model.specs.Parts.{LibraryParts}
+use Rattle.arch_model.specs.Path.{is_source, is_source_role, reached_within}
 use Rattle.arch_model.specs.Inner.Walks.{IsWalk}
 use Rattle.arch_model.proofs.Members.{and_left, and_right, and_both, bool_cases, or_left, or_right, or_cases, same_test, some_of, any_of, is_in-range, is_in-filter, is_in-members, has-from_members}
 use Rattle.arch_model.proofs.SetLaws.{has-put, has-empty, has-union, has-intersection, has-minus}
 use Rattle.arch_model.proofs.Ranges.{blank_edge, blank_component}
 use Rattle.arch_model.proofs.Walks.{level_next, level_first, level_inside, IsClosed, reached_exact, closed_at_last}
 use Rattle.paths.specs.declared.adjacency.Way.{Way}
-use Rattle.paths.specs.Inner.Spread.{source_at, from_of, to_of, leads, live, is_next, numbers_below}
+use Rattle.paths.specs.Inner.Spread.{from_of, to_of, leads, live, is_next}
+
+-- the numbers below n
+unfoldable pub numbers_below : ℕ → List ℕ
+numbers_below n = range_with_len 0 n
 
 or_none : (b : Bool) → (b || false) ≡ b
 or_none true = refl
@@ -78,8 +83,10 @@ collect_more p found after i b is so_far step c =
 pub collect_all : (p : ℕ → Bool) (found : Set) (i n : ℕ) → n ≤ i → ((c : ℕ) → p c ≡ true → c < n) → ((c : ℕ) → has found c ≡ (ltb c i && p c)) → (c : ℕ) → has found c ≡ p c
 collect_all p found i n all small found_is c = found_is c ∙ absorb_left (ltb c i) (p c) (λ h. let short : c < n = small c h in lt-ltb c i (omega arith))
 
-pub source_here : (components : List Component) (i : ℕ) → i < length components → is_source_role (get_or components i blank_component).role ≡ source_at components i
-source_here components i here = sym (ap (λ o. option_map_or (λ (row : Component). is_source_role row.role) o false) (slice_get-get_or components i blank_component here))
+pub source_here : (lib : LibraryParts) (components : List Component) (i : ℕ) → components ≡ lib.components → i < length components → is_source_role (get_or components i blank_component).role ≡ is_source lib i
+source_here lib components i is here =
+    sym (ap (λ o. option_map_or (λ (row : Component). is_source_role row.role) o false) (slice_get-get_or components i blank_component here))
+    ∙ ap (λ (l : List Component). option_map_or (λ (row : Component). is_source_role row.role) (slice_get l i) false) is
 
 -- with the test known
 pub put_when : (before after : Set) (h c : ℕ) (b : Bool) → b ≡ true → after ≡ put before h → has after c ≡ (has before c || (b && nat_eq h c))

@@ -2,10 +2,12 @@
 ghost use Rattle.std.specs.Prelude.{◌≡◌, ℕ, ◌+◌, ◌<◌, ◌≤◌, IsTrue, length};
 ghost use Rattle.std.specs.List.{All};
 ghost use Rattle.arch_model.specs.Set as set;
+ghost use Rattle.arch_model.specs.Architecture.{IsArchitecture};
+ghost use Rattle.arch_model.specs.Path.{live_edges};
 ghost use Rattle.paths.specs.Inner.Spread.{from_of, to_of, leads, live, is_next};
 
 use arch_model::limits::{COMPONENTS, EDGES};
-use arch_model::{CompId, CompSet, Edge, EdgeSet, MemberSet, VarId};
+use arch_model::{Architecture, CompId, CompSet, Edge, EdgeSet, Library, MemberSet, VarId};
 
 // Whether edges are walked from tail to head or from head to tail.
 #[derive(Clone, Copy)]
@@ -27,7 +29,7 @@ fn ends(edge: &Edge, way: Way) -> (CompId, CompId)
 
 // For each component the set of those to which an edge leads from it that is chosen and not failed;
 // edge e is member n + e. Only the chosen edges are looked at.
-pub(crate) fn rows_of(
+fn rows_of(
     edges: &[Edge],
     way: Way,
     chosen: &EdgeSet,
@@ -51,4 +53,18 @@ pub(crate) fn rows_of(
         }
     }
     rows
+}
+
+// The rows of an architecture's edges outside `failed`.
+pub(crate) fn live_rows(
+    lib: &Library,
+    arch: &Architecture,
+    way: Way,
+    failed: &MemberSet,
+) -> [CompSet; COMPONENTS]
+    requires { IsArchitecture lib.now arch.now }
+    ensures { (a : ℕ) (c : ℕ) → is_next result a c ≡ leads way (live_edges lib.now arch.now (set.has failed.now)) a c }
+{
+    let n = lib.components().len() as u32;
+    rows_of(lib.edges(), way, &arch.edges(), failed, n)
 }

@@ -19,13 +19,12 @@
 mod adjacency;
 mod links;
 mod reaching;
+mod searching;
 mod spreading;
 mod standing;
-mod stepping;
 
 pub use links::{Links, ancestors_over, links_of, reach_over};
 pub use reaching::{ancestors, parted, reach};
-pub use stepping::{predecessors, successors};
 
 #[cfg(test)]
 mod tests;

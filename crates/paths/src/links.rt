@@ -8,9 +8,9 @@ ghost use Rattle.arch_model.specs.declared.limits.TheConstants.{COMPONENTS};
 ghost use Rattle.paths.specs.Inner.Spread.{is_next};
 ghost use Rattle.paths.specs.Inner.Links.{AreLinks};
 
-use crate::adjacency::{Way, rows_of};
-use crate::spreading::{closure, entered};
-use crate::standing::{outside, sources};
+use crate::adjacency::{Way, live_rows};
+use crate::searching::{leading_to, reached_from_sources};
+use crate::spreading::entered;
 use arch_model::limits::COMPONENTS;
 use arch_model::{Architecture, CompId, CompSet, Library, MemberSet};
 
@@ -27,24 +27,21 @@ pub fn links_of(lib: &Library, arch: &Architecture, failed: &MemberSet) -> Links
     requires { IsArchitecture lib.now arch.now }
     ensures { AreLinks lib.now arch.now (set.has failed.now) result }
 {
-    let n = lib.components().len() as u32;
-    let edges = arch.edges();
     Links {
-        down: rows_of(lib.edges(), Way::Down, &edges, failed, n),
-        up: rows_of(lib.edges(), Way::Up, &edges, failed, n),
+        down: live_rows(lib, arch, Way::Down, failed),
+        up: live_rows(lib, arch, Way::Up, failed),
     }
 }
 
-/// What `reach` answers, over a table of the edges outside `failed`.
+/// What `reach` answers, over a table of the edges outside `failed`. A table where the same edges
+/// have failed serves every set of failed components.
 pub fn reach_over(lib: &Library, arch: &Architecture, links: &Links, failed: &MemberSet) -> CompSet
     requires architecture { IsArchitecture lib.now arch.now }
     requires links { AreLinks lib.now arch.now (set.has failed.now) links.now }
     ensures { (c : ℕ) → IsTrue (set.has result c)
         ↔ ((path : List ℕ) × IsPath lib.now arch.now c (set.has failed.now) path) }
 {
-    let components = lib.components();
-    let up = outside(&arch.comps(), components.len() as u32, failed);
-    closure(&links.down, &up, &sources(components, &up))
+    reached_from_sources(lib, arch, &links.down, failed)
 }
 
 /// What `ancestors` answers, over a table of the edges outside `failed`.
@@ -61,11 +58,7 @@ pub fn ancestors_over(
     ensures { (c : ℕ) → IsTrue (set.has result c)
         ↔ ((rest : List ℕ) × LeadsTo lib.now arch.now sink.0 (set.has failed.now) (c ∷ rest)) }
 {
-    let n = lib.components().len() as u32;
-    let mut first = CompSet::new();
-    first.put(sink);
-    let up = outside(&arch.comps().union(&first), n, failed);
-    closure(&links.up, &up, &first)
+    leading_to(lib, arch, sink, &links.up, failed)
 }
 
 impl Links {

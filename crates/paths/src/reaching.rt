@@ -1,12 +1,11 @@
-// The searches: down from the sources, and up from a sink.
+// The searches of one set of failed members: down from the sources, and up from a sink.
 ghost use Rattle.std.specs.Prelude.{◌≡◌, ℕ, ◌<◌, ◌↔◌, ◌∷◌, IsTrue, List, length};
 ghost use Rattle.arch_model.specs.Set as set;
 ghost use Rattle.arch_model.specs.Architecture.{IsArchitecture};
 ghost use Rattle.arch_model.specs.Path.{IsPath, LeadsTo, Parts};
 
-use crate::adjacency::{Way, rows_of};
-use crate::spreading::closure;
-use crate::standing::{outside, sources};
+use crate::adjacency::{Way, live_rows};
+use crate::searching::{leading_to, reached_from_sources};
 use arch_model::{Architecture, CompId, CompSet, Library, MemberSet};
 
 /// The components to which a path leads: a list of present components from a source on, each joined
@@ -17,11 +16,8 @@ pub fn reach(lib: &Library, arch: &Architecture, failed: MemberSet) -> CompSet
     ensures { (c : ℕ) → IsTrue (set.has result c)
         ↔ ((path : List ℕ) × IsPath lib.now arch.now c (set.has failed) path) }
 {
-    let components = lib.components();
-    let n = components.len() as u32;
-    let up = outside(&arch.comps(), n, &failed);
-    let rows = rows_of(lib.edges(), Way::Down, &arch.edges(), &failed, n);
-    closure(&rows, &up, &sources(components, &up))
+    let down = live_rows(lib, arch, Way::Down, &failed);
+    reached_from_sources(lib, arch, &down, &failed)
 }
 
 /// Whether no path to the sink avoids the failed members. No path leads to a sink that is absent or
@@ -42,10 +38,6 @@ pub fn ancestors(lib: &Library, arch: &Architecture, sink: CompId, failed: Membe
     ensures { (c : ℕ) → IsTrue (set.has result c)
         ↔ ((rest : List ℕ) × LeadsTo lib.now arch.now sink.0 (set.has failed) (c ∷ rest)) }
 {
-    let n = lib.components().len() as u32;
-    let mut first = CompSet::new();
-    first.put(sink);
-    let up = outside(&arch.comps().union(&first), n, &failed);
-    let rows = rows_of(lib.edges(), Way::Up, &arch.edges(), &failed, n);
-    closure(&rows, &up, &first)
+    let up = live_rows(lib, arch, Way::Up, &failed);
+    leading_to(lib, arch, sink, &up, &failed)
 }

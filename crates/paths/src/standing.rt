@@ -1,11 +1,11 @@
 // Which components stand, and which of them are sources.
 ghost use Rattle.std.specs.Prelude.{◌≡◌, ℕ, ◌<◌, ◌≤◌, ◌&&◌, not, length, IsTrue};
 ghost use Rattle.arch_model.specs.Set as set;
-ghost use Rattle.arch_model.specs.Path.{is_source_role};
-ghost use Rattle.paths.specs.Inner.Spread.{source_at};
+ghost use Rattle.arch_model.specs.Path.{is_source, is_source_role};
+ghost use Rattle.arch_model.specs.declared.limits.TheConstants.{COMPONENTS};
 
 use arch_model::limits::COMPONENTS;
-use arch_model::{CompId, CompSet, Component, MemberSet, Role, VarId};
+use arch_model::{CompId, CompSet, Component, Library, MemberSet, Role, VarId};
 
 // Whether a component that is up is a source.
 fn is_live_source(up: &CompSet, c: CompId, component: &Component) -> bool
@@ -15,13 +15,12 @@ fn is_live_source(up: &CompSet, c: CompId, component: &Component) -> bool
 }
 
 // The sources that are up.
-pub(crate) fn sources(components: &[Component], up: &CompSet) -> CompSet
-    requires few { length components.now ≤ COMPONENTS }
-    requires small { (c : ℕ) → IsTrue (set.has up.now c) → c < length components.now }
-    ensures { (c : ℕ) → set.has result c ≡ (set.has up.now c && source_at components.now c) }
+pub(crate) fn sources(lib: &Library, up: &CompSet) -> CompSet
+    requires { (c : ℕ) → IsTrue (set.has up.now c) → c < length lib.now.components }
+    ensures { (c : ℕ) → set.has result c ≡ (set.has up.now c && is_source lib.now c) }
 {
     let mut found = CompSet::new();
-    for (i, component) in components.iter().enumerate() {
+    for (i, component) in lib.components().iter().enumerate() {
         let c = CompId(i as u32);
         if is_live_source(up, c, component) {
             found.put(c);

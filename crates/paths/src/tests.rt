@@ -1,7 +1,7 @@
 // Searches over three networks, worked out by hand.
 ghost use Rattle.arch_model.specs.Name.{IsTypeName};
 
-use crate::{ancestors, parted, reach};
+use crate::{ancestors, ancestors_over, links_of, parted, reach, reach_over};
 use arch_model::{
     Architecture, CompId, CompSet, Component, Edge, EdgeId, EdgeSet, Library, LinkRow, MemberSet,
     Name, Role, Template, TypeRow, VarId, fits, is_library,
@@ -140,7 +140,7 @@ struct Case {
     above: &'static [u32],
 }
 
-// That searches find what they must.
+// That searches find what they must, over the edges and over a table of them.
 fn expect(rt: &impl Abort, lib: &Library, arch: &Architecture, sink: u32, cases: &[Case]) {
     assert!(rt; fits(lib, arch));
     assert!(rt; (sink as usize) < lib.components().len());
@@ -154,6 +154,9 @@ fn expect(rt: &impl Abort, lib: &Library, arch: &Architecture, sink: u32, cases:
         assert!(rt; reach(lib, arch, failed) == comps(case.reached));
         assert_eq!(rt; parted(lib, arch, CompId(sink), failed), case.parted);
         assert!(rt; ancestors(lib, arch, CompId(sink), failed) == comps(case.above));
+        let links = links_of(lib, arch, &failed);
+        assert!(rt; reach_over(lib, arch, &links, &failed) == comps(case.reached));
+        assert!(rt; ancestors_over(lib, arch, CompId(sink), &links, &failed) == comps(case.above));
     }
 }
 
@@ -203,7 +206,16 @@ fn two_chains_fail_one_by_one(rt: HostRuntime) -> Result<(), Fail> {
         },
     ];
     expect(&rt, &lib, &arch, 4, &cases);
+    step(&rt, &lib, &arch);
     Ok(())
+}
+
+// One step down and up the two chains, over a table of their edges.
+fn step(rt: &impl Abort, lib: &Library, arch: &Architecture) {
+    assert!(rt; fits(lib, arch));
+    let links = links_of(lib, arch, &MemberSet::new());
+    assert!(rt; links.heads(arch, &comps(&[0, 3])) == comps(&[2, 4]));
+    assert!(rt; links.tails(arch, &comps(&[2, 4])) == comps(&[0, 2, 3]));
 }
 
 // A source a that feeds the sink t, and a source c that feeds it through b1 and b2. Components 0 to

@@ -1,18 +1,12 @@
 -- For the code's own contracts: steps of a search over rows of successors.
-use Rattle.std.specs.Prelude.{ℕ, ◌+◌, Bool, false, ◌&&◌, not, nat_eq, List, slice_get}
-use Rattle.std.specs.List.{list_any, range_with_len}
-use Rattle.std.specs.Option.{option_map_or, unwrap_or}
-use Rattle.arch_model.specs.declared.template.Component.{Component}
+use Rattle.std.specs.Prelude.{ℕ, ◌+◌, Bool, ◌&&◌, not, nat_eq, List, slice_get}
+use Rattle.std.specs.List.{list_any}
+use Rattle.std.specs.Option.{unwrap_or}
 use Rattle.arch_model.specs.declared.template.Edge.{Edge}
 use Rattle.paths.specs.declared.adjacency.Way.{Way}
 use Rattle.paths.specs.declared.adjacency.Way.TheVariants.{Down, Up}
 use Rattle.arch_model.specs.Set.{Set, has, empty}
 use Rattle.arch_model.specs.Architecture.{present}
-use Rattle.arch_model.specs.Path.{is_source_role}
-
--- whether component c is a source
-abbrev pub source_at : List Component → ℕ → Bool
-source_at components c = option_map_or (λ row. is_source_role row.role) (slice_get components c) false
 
 -- the end at which an edge is entered, and the other
 abbrev pub from_of : Way → Edge → ℕ
@@ -35,7 +29,3 @@ live chosen failed n edges = present (λ e. has chosen e && not (has failed (n +
 -- whether c is in row a
 abbrev pub is_next : List Set → ℕ → ℕ → Bool
 is_next rows a c = has (unwrap_or (slice_get rows a) empty) c
-
--- the numbers below n
-unfoldable pub numbers_below : ℕ → List ℕ
-numbers_below n = range_with_len 0 n

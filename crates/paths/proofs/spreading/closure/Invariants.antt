@@ -3,7 +3,8 @@ use Rattle.arch_model.specs.declared.limits.TheConstants.{COMPONENTS}
 use Rattle.arch_model.specs.Set.{has}
 use Rattle.arch_model.specs.Member.{is_in}
 use Rattle.arch_model.specs.Path.{reached_within}
-use Rattle.paths.specs.Inner.Spread.{is_next, numbers_below}
+use Rattle.paths.specs.Inner.Spread.{is_next}
+use Rattle.paths.proofs.SpreadLaws.{numbers_below}
 use Rattle.paths.proofs.spreading.closure.Given as goal
 
 -- what is reached is a level; the newest are of it, and the rows of the others add nothing to it

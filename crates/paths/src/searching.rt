@@ -1,0 +1,49 @@
+// The two searches over rows of edges.
+ghost use Rattle.std.specs.Prelude.{◌≡◌, ℕ, ◌<◌, ◌↔◌, ◌∷◌, IsTrue, List, length};
+ghost use Rattle.arch_model.specs.Set as set;
+ghost use Rattle.arch_model.specs.Architecture.{IsArchitecture};
+ghost use Rattle.arch_model.specs.Path.{IsPath, LeadsTo, live_edges};
+ghost use Rattle.paths.specs.declared.adjacency.Way.TheVariants.{Down, Up};
+ghost use Rattle.paths.specs.Inner.Spread.{is_next, leads};
+
+use crate::spreading::closure;
+use crate::standing::{outside, sources};
+use arch_model::limits::COMPONENTS;
+use arch_model::{Architecture, CompId, CompSet, Library, MemberSet};
+
+// The components to which a path leads that avoids the failed members, over rows of successors.
+pub(crate) fn reached_from_sources(
+    lib: &Library,
+    arch: &Architecture,
+    down: &[CompSet; COMPONENTS],
+    failed: &MemberSet,
+) -> CompSet
+    requires architecture { IsArchitecture lib.now arch.now }
+    requires rows { (a : ℕ) (c : ℕ) → is_next down.now a c ≡ leads Down (live_edges lib.now arch.now (set.has failed.now)) a c }
+    ensures { (c : ℕ) → IsTrue (set.has result c)
+        ↔ ((path : List ℕ) × IsPath lib.now arch.now c (set.has failed.now) path) }
+{
+    let standing = outside(&arch.comps(), lib.components().len() as u32, failed);
+    closure(down, &standing, &sources(lib, &standing))
+}
+
+// The components that lead to the sink past the failed members, over rows of predecessors.
+pub(crate) fn leading_to(
+    lib: &Library,
+    arch: &Architecture,
+    sink: CompId,
+    up: &[CompSet; COMPONENTS],
+    failed: &MemberSet,
+) -> CompSet
+    requires architecture { IsArchitecture lib.now arch.now }
+    requires in_range { sink.0 < length lib.now.components }
+    requires rows { (a : ℕ) (c : ℕ) → is_next up.now a c ≡ leads Up (live_edges lib.now arch.now (set.has failed.now)) a c }
+    ensures { (c : ℕ) → IsTrue (set.has result c)
+        ↔ ((rest : List ℕ) × LeadsTo lib.now arch.now sink.0 (set.has failed.now) (c ∷ rest)) }
+{
+    let n = lib.components().len() as u32;
+    let mut first = CompSet::new();
+    first.put(sink);
+    let standing = outside(&arch.comps().union(&first), n, failed);
+    closure(up, &standing, &first)
+}
