@@ -7,7 +7,8 @@ use Rattle.std.proofs.lemmas.List.FromFn.{length-range_with_len}
 use Rattle.arch_model.specs.Parts.{LibraryParts, ArchitectureParts}
 use Rattle.arch_model.specs.Library.{IsLibrary}
 use Rattle.arch_model.specs.Member.{is_in}
-use Rattle.arch_model.specs.Path.{live_edges, joins, LeadsTo, IsWalk}
+use Rattle.arch_model.specs.Path.{live_edges, joins, LeadsTo}
+use Rattle.arch_model.specs.Inner.Walks.{IsWalk}
 use Rattle.arch_model.proofs.Members.{and_left, and_right, and_both, is_in-range}
 use Rattle.arch_model.proofs.Ranges.{edge_tails}
 use Rattle.arch_model.proofs.Walks.{reached_exact, closed_at_last, level_inside}

@@ -1,0 +1,2 @@
+pub mod SpendLaws
+pub mod AscentLaws

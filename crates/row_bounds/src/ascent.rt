@@ -1,0 +1,198 @@
+// The ascent, row after row, which notes on its way the rows that a second candidate looks at.
+ghost use Rattle.std.specs.Prelude.{◌≡◌, ℕ, ◌≤◌, ◌<◌, ◌^◌, length, slice_get, slice_index, vec_capacity, fold};
+ghost use Rattle.std.specs.Prelude.{IfOk, IfSome};
+ghost use Rattle.rows.specs.Row.{row_of_cut};
+ghost use Rattle.rows.specs.Known.{parts_of, known_cuts, IsKnown};
+ghost use Rattle.rows.specs.declared.known.RowRef.TheVariants as names;
+ghost use Rattle.rows.specs.BaseRows.{member_cost_of};
+ghost use Rattle.rows.specs.Ascent as formal;
+ghost use Rattle.row_bounds.specs.Residue.{whole_ascent};
+ghost use Rattle.row_bounds.specs.Inner.Climb.{Follows, IsRising, IsPrepared, base_named, cuts_named};
+
+use crate::spending::{
+    free_of_cut, helpers_of_row, spend_cut, spend_row, times_of_cut, times_of_row,
+};
+use crate::unmet::Unmet;
+use arch_model::limits::MEMBERS;
+use arch_model::{Library, Memory, VarId};
+use rows::{Cube, Known, Pair, RowRef, member_cost, refuted, variable_count};
+use std::alloc::Global;
+
+// The greatest number of pairs of a reason.
+pub(crate) const PAIRS: usize = 64;
+
+// The pairs so far, and what is left of each variable's cost.
+#[derive(Drop)]
+pub(crate) struct Rising {
+    pub(crate) pairs: Vec<Pair>,
+    pub(crate) residue: [u128; MEMBERS],
+}
+
+// What each member costs.
+fn costs(lib: &Library) -> [u128; MEMBERS]
+    ensures value { (v : ℕ) → v < MEMBERS → slice_index result v ≡ member_cost_of lib.now v }
+    ensures low { (v : ℕ) → v < MEMBERS → slice_index result v ≤ 10 ^ 12 }
+{
+    let mut costs = [0u128; MEMBERS];
+    for i in 0..variable_count(lib) {
+        costs[i as usize] = member_cost(lib, VarId(i)) as u128;
+    }
+    costs
+}
+
+// A cube in which what is free is at 0.
+fn with_zeros(known: &Known, cube: &Cube) -> Cube
+    requires { IsKnown (parts_of known.now) }
+    ensures { IsPrepared (parts_of known.now) cube.now result }
+{
+    let mut zeros = *cube;
+    for i in 0..variable_count(known.problem.library()) {
+        if zeros.value(VarId(i)).is_none() {
+            zeros.fix(VarId(i), false);
+        }
+    }
+    zeros
+}
+
+// Looks at a base row. Where the variables that are fixed to 1 don't meet it by themselves, it is
+// noted, and added as often as it may be while there is room for a pair.
+fn look_at_base(
+    known: &Known,
+    i: u32,
+    cube: &Cube,
+    zeros: &Cube,
+    unmet: &mut Unmet,
+    rising: &mut Rising,
+)
+    requires prepared { IsPrepared (parts_of known.now) cube.now zeros.now }
+    requires short { i < length known.now.problem.now.base }
+    requires rising { IsRising (parts_of known.now) rising.old.pairs.items rising.old.residue }
+    requires room { vec_capacity rising.old.pairs ≡ 64 }
+    ensures rising { IsRising (parts_of known.now) rising.new.pairs.items rising.new.residue }
+    ensures room { vec_capacity rising.new.pairs ≡ 64 }
+    ensures follows { (a : formal.Ascent) → Follows rising.old.pairs.items rising.old.residue a
+        → IfSome (slice_get known.now.problem.now.base i)
+        (λ row. Follows rising.new.pairs.items rising.new.residue
+        (formal.looked_at cube.now a (names.Base i, row))) }
+{
+    let name = RowRef::Base(i);
+    if !refuted(known, name, zeros) {
+        return;
+    }
+    let row = &known.problem.base()[i as usize];
+    unmet.note(name, helpers_of_row(row, cube));
+    if rising.pairs.len() >= PAIRS {
+        return;
+    }
+    let times = times_of_row(row, cube, &rising.residue);
+    if times == 0 {
+        return;
+    }
+    spend_row(&mut rising.residue, row, times);
+    rising.pairs.push_reserved(Pair { row: name, times });
+}
+
+// The same for a cut.
+fn look_at_cut(
+    known: &Known,
+    j: u32,
+    cube: &Cube,
+    zeros: &Cube,
+    unmet: &mut Unmet,
+    rising: &mut Rising,
+)
+    requires prepared { IsPrepared (parts_of known.now) cube.now zeros.now }
+    requires short { j < known.now.upto }
+    requires rising { IsRising (parts_of known.now) rising.old.pairs.items rising.old.residue }
+    requires room { vec_capacity rising.old.pairs ≡ 64 }
+    ensures rising { IsRising (parts_of known.now) rising.new.pairs.items rising.new.residue }
+    ensures room { vec_capacity rising.new.pairs ≡ 64 }
+    ensures follows { (a : formal.Ascent) → Follows rising.old.pairs.items rising.old.residue a
+        → IfSome (slice_get (known_cuts (parts_of known.now)) j)
+        (λ cut. Follows rising.new.pairs.items rising.new.residue
+        (formal.looked_at cube.now a (names.Cut j, row_of_cut cut))) }
+{
+    let name = RowRef::Cut(j);
+    if !refuted(known, name, zeros) {
+        return;
+    }
+    let cut = known.cuts.get(j);
+    unmet.note(name, free_of_cut(&cut, cube).len() as usize);
+    if rising.pairs.len() >= PAIRS {
+        return;
+    }
+    let times = times_of_cut(&cut, cube, &rising.residue);
+    if times == 0 {
+        return;
+    }
+    spend_cut(&mut rising.residue, &cut, times);
+    rising.pairs.push_reserved(Pair { row: name, times });
+}
+
+// Looks at all base rows, by number.
+fn climb_base(known: &Known, cube: &Cube, zeros: &Cube, unmet: &mut Unmet, rising: &mut Rising)
+    requires prepared { IsPrepared (parts_of known.now) cube.now zeros.now }
+    requires rising { IsRising (parts_of known.now) rising.old.pairs.items rising.old.residue }
+    requires room { vec_capacity rising.old.pairs ≡ 64 }
+    ensures rising { IsRising (parts_of known.now) rising.new.pairs.items rising.new.residue }
+    ensures room { vec_capacity rising.new.pairs ≡ 64 }
+    ensures follows { (a : formal.Ascent) → Follows rising.old.pairs.items rising.old.residue a
+        → Follows rising.new.pairs.items rising.new.residue
+        (fold (formal.looked_at cube.now) a (base_named (parts_of known.now))) }
+{
+    for i in 0..known.problem.base().len() as u32 {
+        look_at_base(known, i, cube, zeros, unmet, rising);
+    }
+}
+
+// Looks at all cuts that are known, by number.
+fn climb_cuts(known: &Known, cube: &Cube, zeros: &Cube, unmet: &mut Unmet, rising: &mut Rising)
+    requires prepared { IsPrepared (parts_of known.now) cube.now zeros.now }
+    requires rising { IsRising (parts_of known.now) rising.old.pairs.items rising.old.residue }
+    requires room { vec_capacity rising.old.pairs ≡ 64 }
+    ensures rising { IsRising (parts_of known.now) rising.new.pairs.items rising.new.residue }
+    ensures room { vec_capacity rising.new.pairs ≡ 64 }
+    ensures follows { (a : formal.Ascent) → Follows rising.old.pairs.items rising.old.residue a
+        → Follows rising.new.pairs.items rising.new.residue
+        (fold (formal.looked_at cube.now) a (cuts_named (parts_of known.now))) }
+{
+    for j in 0..known.upto {
+        look_at_cut(known, j, cube, zeros, unmet, rising);
+    }
+}
+
+// The first pair is the cost row once.
+fn begin(alloc: Global, known: &Known) -> Result<Rising, Memory>
+    ensures rising { IfOk result (λ r. IsRising (parts_of known.now) r.pairs.items r.residue) }
+    ensures room { IfOk result (λ r. vec_capacity r.pairs ≡ 64) }
+    ensures follows { IfOk result (λ r. Follows r.pairs.items r.residue (formal.ascent_start (parts_of known.now))) }
+{
+    let mut pairs = Vec::with_capacity(alloc, PAIRS)?;
+    pairs.push_reserved(Pair {
+        row: RowRef::Cost,
+        times: 1,
+    });
+    Ok(Rising {
+        pairs,
+        residue: costs(known.problem.library()),
+    })
+}
+
+// The ascent, whether there is a bound or not.
+pub(crate) fn climb(
+    alloc: Global,
+    known: &Known,
+    cube: &Cube,
+    unmet: &mut Unmet,
+) -> Result<Rising, Memory>
+    requires { IsKnown (parts_of known.now) }
+    ensures rising { IfOk result (λ r. IsRising (parts_of known.now) r.pairs.items r.residue) }
+    ensures follows { IfOk result
+        (λ r. Follows r.pairs.items r.residue (whole_ascent (parts_of known.now) cube.now)) }
+{
+    let zeros = with_zeros(known, cube);
+    let mut rising = begin(alloc, known)?;
+    climb_base(known, cube, &zeros, unmet, &mut rising);
+    climb_cuts(known, cube, &zeros, unmet, &mut rising);
+    Ok(rising)
+}

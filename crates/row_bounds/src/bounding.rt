@@ -1,0 +1,136 @@
+// Reasons for a cube: the ascent's own, or else one of a stronger candidate.
+ghost use Rattle.std.specs.Prelude.{◌≡◌, ℕ, ◌<◌, false, IsTrue, IsSome, IfOk, IfSome, IfNone, slice_index};
+ghost use Rattle.rows.specs.Known.{parts_of, IsKnown};
+ghost use Rattle.rows.specs.Reason.{AllThere, IsReason, is_together};
+ghost use Rattle.rows.specs.Ascent.{is_ascent_refuted};
+ghost use Rattle.row_bounds.specs.Residue.{whole_ascent, residue_of};
+ghost use Rattle.row_bounds.specs.Bounded.{reason_in};
+
+use crate::ascent::climb;
+use crate::bounded::Bounded;
+use crate::buying::climb_scaled;
+use crate::residues::Residues;
+use crate::unmet::Unmet;
+use arch_model::Memory;
+use arch_model::limits::MEMBERS;
+use rows::{Cube, Known, Pair, Reason, together};
+use std::alloc::Global;
+use std::marker::Model;
+
+/// An ascent: the cost row once and the rows that were added, each with its multiplier, and what
+/// they leave of each variable's cost. Each value of the type has the pairs of a reason
+/// (`IsReason`).
+#[derive(Drop)]
+pub struct Ascent {
+    pairs: Vec<Pair>,
+    residues: Residues,
+    unmet: Unmet,
+}
+
+impl Model for Ascent {
+    ghost use Rattle.row_bounds.specs.Residue.{AscentParts};
+    ghost use Rattle.rows.specs.Reason.{IsReason};
+
+    ghost Value = { AscentParts };
+
+    ghost view = { λ a. record { pairs = a.pairs.items; residues = a.residues } };
+
+    ghost invariant = { λ a. IsReason a.pairs.items };
+}
+
+impl Ascent {
+    /// What the ascent leaves of each variable's cost, in cost units.
+    pub fn residues(&self) -> &Residues
+        ensures { result.now ≡ self.now.residues }
+    {
+        &self.residues
+    }
+
+    /// Takes an ascent to its end: its own reason where its combination is refuted in the cube, else
+    /// that of a stronger candidate, else what that leaves. `Open` comes only where there is no
+    /// bound or the ascent isn't refuted. The only error is want of memory.
+    pub fn settle(self, alloc: Global, known: &Known, cube: &Cube) -> Result<Bounded, Memory>
+        requires known { IsKnown (parts_of known.now) }
+        requires ascent { self.pairs ≡ (whole_ascent (parts_of known.now) cube.now).pairs }
+        requires there { IsSome known.now.bound → AllThere (parts_of known.now) self.pairs }
+        ensures there { IfOk result (λ b. IfSome (reason_in b) (AllThere (parts_of known.now))) }
+        ensures refuted { IfOk result
+            (λ b. IfSome (reason_in b) (λ reason. IsTrue (is_together (parts_of known.now) reason cube.now))) }
+        ensures open_yet { IfOk result
+            (λ b. IfNone (reason_in b) (is_ascent_refuted (parts_of known.now) cube.now ≡ false)) }
+    {
+        if let Some(reason) = judged(alloc, known, self.pairs, cube)? {
+            return Ok(Bounded::Refuted(reason));
+        }
+        let second = climb_scaled(alloc, known, &self.unmet, cube)?;
+        if let Some(reason) = judged(alloc, known, second.pairs, cube)? {
+            return Ok(Bounded::Refuted(reason));
+        }
+        Ok(Bounded::Open(Residues::new(second.residue)))
+    }
+}
+
+// The reason of some pairs, with no more room than they take, where their combination is refuted in
+// a cube. None comes exactly where there is no bound or it isn't.
+fn judged(
+    alloc: Global,
+    known: &Known,
+    pairs: Vec<Pair>,
+    cube: &Cube,
+) -> Result<Option<Reason>, Memory>
+    requires reason { IsReason pairs.items }
+    requires there { IsSome known.now.bound → AllThere (parts_of known.now) pairs.items }
+    ensures there { IfOk result (λ found. IfSome found (λ reason. AllThere (parts_of known.now) reason)) }
+    ensures refuted { IfOk result
+        (λ found. IfSome found (λ reason. IsTrue (is_together (parts_of known.now) reason cube.now))) }
+    ensures none { IfOk result (λ found. IfNone found
+        (IsSome known.now.bound → is_together (parts_of known.now) pairs.items cube.now ≡ false)) }
+{
+    if known.bound.is_none() {
+        return Ok(None);
+    }
+    let reason = Reason::new(pairs);
+    if !together(known, &reason, cube) {
+        return Ok(None);
+    }
+    Ok(Some(Reason::new(reason.pairs().to_vec(alloc)?)))
+}
+
+/// The ascent in a cube, also where there is no bound: then its pairs are no reason, since there is
+/// no cost row, and what it leaves is as with a bound. The only error is want of memory.
+pub fn ascend(alloc: Global, known: &Known, cube: &Cube) -> Result<Ascent, Memory>
+    requires { IsKnown (parts_of known.now) }
+    ensures pairs { IfOk result (λ a. a.pairs ≡ (whole_ascent (parts_of known.now) cube.now).pairs) }
+    ensures residues { IfOk result (λ a. (v : ℕ) → v < MEMBERS
+        → slice_index a.residues v ≡ residue_of (parts_of known.now) cube.now v) }
+    ensures there { IfOk result (λ a. IsSome known.now.bound → AllThere (parts_of known.now) a.pairs) }
+{
+    let mut unmet = Unmet::new();
+    let rising = climb(alloc, known, cube, &mut unmet)?;
+    Ok(Ascent {
+        pairs: rising.pairs,
+        residues: Residues::new(rising.residue),
+        unmet,
+    })
+}
+
+/// A reason whose combination is refuted in the cube: the ascent's, or else that of a stronger
+/// candidate. None comes only where there is no bound or the ascent isn't refuted there. The only
+/// error is want of memory. Who branches at the cube where none comes calls `ascend` and `settle`
+/// instead, and has the residues for it.
+pub fn lift(alloc: Global, known: &Known, cube: &Cube) -> Result<Option<Reason>, Memory>
+    requires { IsKnown (parts_of known.now) }
+    ensures there { IfOk result (λ found. IfSome found (λ reason. AllThere (parts_of known.now) reason)) }
+    ensures refuted { IfOk result
+        (λ found. IfSome found (λ reason. IsTrue (is_together (parts_of known.now) reason cube.now))) }
+    ensures none { IfOk result
+        (λ found. IfNone found (is_ascent_refuted (parts_of known.now) cube.now ≡ false)) }
+{
+    if known.bound.is_none() {
+        return Ok(None);
+    }
+    match ascend(alloc, known, cube)?.settle(alloc, known, cube)? {
+        Bounded::Refuted(reason) => Ok(Some(reason)),
+        Bounded::Open(_) => Ok(None),
+    }
+}

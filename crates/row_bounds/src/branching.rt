@@ -1,0 +1,125 @@
+// Where to branch.
+ghost use Rattle.std.specs.Prelude.{◌≡◌, ℕ, ◌<◌, ◌≤◌, true, IfSome, IfNone};
+ghost use Rattle.arch_model.specs.Member.{member_count};
+ghost use Rattle.rows.specs.Cube.{is_free, IsFull};
+ghost use Rattle.rows.specs.Row.{IsRowBelow};
+ghost use Rattle.rows.specs.Known.{parts_of, variables};
+
+use crate::residues::Residues;
+use crate::spending::base_row;
+use arch_model::limits::MEMBERS;
+use arch_model::{Library, MemberSet, VarId};
+use rows::{Cube, Known, Row, RowRef, has, member_cost, refuted, variable_count};
+
+// What speaks for branching on a variable, the strongest first.
+#[derive(Clone, Copy)]
+struct Merit {
+    // it would help to meet a row
+    useful: bool,
+    // nothing is left of its cost: rows that are wanted took all of it
+    spent: bool,
+    // its cost
+    cost: u64,
+}
+
+impl Merit {
+    // That of a variable.
+    fn of(lib: &Library, useful: &MemberSet, residues: &Residues, v: VarId) -> Merit
+        requires few { member_count lib.now ≤ MEMBERS }
+        requires variable { v.0 < member_count lib.now }
+    {
+        Merit {
+            useful: useful.has(v),
+            spent: residues.of(v) == 0,
+            cost: member_cost(lib, v),
+        }
+    }
+
+    // Whether this speaks louder than another.
+    fn is_above(&self, other: &Merit) -> bool {
+        if self.useful != other.useful {
+            return self.useful;
+        }
+        if self.spent != other.spent {
+            return self.spent;
+        }
+        self.cost > other.cost
+    }
+}
+
+// Makes the variables with positive coefficients in a row members of a set.
+fn put_helpers(set: &mut MemberSet, row: &Row)
+    requires { IsRowBelow MEMBERS row.now }
+{
+    for term in row.terms() {
+        if term.coef > 0 {
+            set.put(term.var);
+        }
+    }
+}
+
+// Whether a row is known, and not met by every vector of a cube.
+fn is_wanting(known: &Known, name: RowRef, cube: &Cube) -> bool {
+    has(known, name) && refuted(known, name, cube)
+}
+
+// The variables with a positive coefficient in some base row or known cut that isn't met by every
+// vector of a cube.
+fn useful_variables(known: &Known, cube: &Cube) -> MemberSet {
+    let mut useful = MemberSet::new();
+    for i in 0..known.problem.base().len() as u32 {
+        if is_wanting(known, RowRef::Base(i), cube) {
+            put_helpers(&mut useful, base_row(known.problem, i));
+        }
+    }
+    for j in 0..known.upto.min(known.cuts.len()) {
+        if is_wanting(known, RowRef::Cut(j), cube) {
+            useful = useful.union(&known.cuts.get(j).plus());
+        }
+    }
+    useful
+}
+
+// Whether more speaks for a variable than for the best so far. With no best yet, it does.
+fn beats(
+    lib: &Library,
+    useful: &MemberSet,
+    residues: &Residues,
+    v: VarId,
+    best: Option<VarId>,
+) -> bool
+    requires few { member_count lib.now ≤ MEMBERS }
+    requires variable { v.0 < member_count lib.now }
+    requires best { IfSome best (λ w. w.0 < member_count lib.now) }
+    ensures { IfNone best (result ≡ true) }
+{
+    match best {
+        Some(w) => Merit::of(lib, useful, residues, v).is_above(&Merit::of(
+            lib, useful, residues, w,
+        )),
+        None => true,
+    }
+}
+
+/// The variable to branch on: a free one that would help to meet a known row, one of whose cost
+/// nothing is left before others, then the one of the highest cost, then the one of the least
+/// number. Where no free variable would help, all are looked at. None comes exactly where nothing
+/// is free.
+pub fn branching_variable(known: &Known, cube: &Cube, residues: &Residues) -> Option<VarId>
+    ensures free { IfSome result (λ v. is_free cube.now v.0 ≡ true) }
+    ensures variable { IfSome result (λ v. v.0 < variables (parts_of known.now)) }
+    ensures none { IfNone result (IsFull (variables (parts_of known.now)) cube.now) }
+{
+    let lib = known.problem.library();
+    let useful = useful_variables(known, cube);
+    let mut best = None;
+    for i in 0..variable_count(lib) {
+        let v = VarId(i);
+        if cube.value(v).is_none() {
+            if beats(lib, &useful, residues, v, best) {
+                best = Some(v);
+            }
+        }
+    }
+    best
+}
