@@ -17,7 +17,8 @@ use Rattle.rows.specs.Parts.{RowParts, KnownParts}
 use Rattle.rows.specs.Row.{term, RowHolds}
 use Rattle.std.proofs.lemmas.Int.{ints}
 use Rattle.rows.specs.Cube.{whole, fixed_at, is_free}
-use Rattle.rows.specs.Activity.{is_refuted, least_forced, is_quiet_at}
+use Rattle.rows.specs.Activity.{is_refuted, least_forced}
+use Rattle.rows.specs.Inner.Quiet.{is_quiet_at}
 use Rattle.rows.specs.Known.{known_rows}
 use Rattle.rows.specs.BaseRows.{base_rows_of, cost_row_of}
 use Rattle.rows.specs.Trace.{cube_after}
