@@ -1,5 +1,6 @@
 // The rows that are known, by number, and whether all of them are quiet in a cube.
 ghost use Rattle.std.specs.Prelude.{◌≡◌, ◌<◌, ◌↔◌, min, IsTrue, IfSome, length, slice_get};
+ghost use Rattle.rows.specs.Problem.{IsProblem};
 ghost use Rattle.rows.specs.Known.{parts_of, has_row, row_at, known_rows, IsQuiet};
 ghost use Rattle.rows.specs.Inner.Quiet.{is_quiet_at};
 
@@ -17,7 +18,8 @@ impl Known<'_> {
 
     /// How many rows are known.
     pub fn row_count(&self) -> usize
-        ensures { result ≡ length (known_rows (parts_of self.now)) }
+        ensures count { result ≡ length (known_rows (parts_of self.now)) }
+        ensures problem { IsProblem self.now.problem.now }
     {
         let cost = if self.bound.is_some() { 1 } else { 0 };
         self.problem.base().len() + self.cut_count() as usize + cost

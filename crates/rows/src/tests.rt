@@ -115,6 +115,8 @@ fn cuts_are_listed_by_number(rt: HostRuntime) -> Result<(), Fail> {
     assert_eq!(rt; cuts.get(0).coef(VarId(3)), -1);
     assert_eq!(rt; cuts.get(0).coef(VarId(4)), 0);
     assert_eq!(rt; cuts.get(1).least(), -4);
+    assert!(rt; cuts.get(0) == cut(&rt));
+    assert!(rt; cuts.get(0) != cuts.get(1));
     Ok(())
 }
 
