@@ -33,25 +33,26 @@ module _ (lib : LibraryParts) (right : IsLibrary lib) (arch : ArchitectureParts)
   value = value_with lib arch sink failed
 
   -- the ends
-  pub where_cut : parts lib arch sink (has failed) ≡ true → let q : ℕ × ℕ = (10 ^ 18, 10 ^ 18) in q ≡ left
-  where_cut cut = paired (10 ^ 18) (10 ^ 18) left
-      (sym (all_same lib right down down_whole value (10 ^ 18) (members_from undecided i n) (surely lib arch fits sink failed (members_from undecided i n) cut)))
-      (sym (all_same lib right up up_whole value (10 ^ 18) (members_from undecided i n) (surely lib arch fits sink failed (members_from undecided i n) cut)))
+  module _ (end : ℕ × ℕ) where
+    pub where_cut : end.0 ≡ 10 ^ 18 → end.1 ≡ 10 ^ 18 → parts lib arch sink (has failed) ≡ true → end ≡ left
+    where_cut lower upper cut = paired end.0 end.1 left
+        (lower ∙ sym (all_same lib right down down_whole value (10 ^ 18) (members_from undecided i n) (surely lib arch fits sink failed (members_from undecided i n) cut)))
+        (upper ∙ sym (all_same lib right up up_whole value (10 ^ 18) (members_from undecided i n) (surely lib arch fits sink failed (members_from undecided i n) cut)))
 
-  pub where_safe : parts lib arch sink (has (union failed undecided)) ≡ false → let q : ℕ × ℕ = (0, 0) in q ≡ left
-  where_safe uncut = paired 0 0 left
-      (sym (all_same lib right down down_whole value 0 (members_from undecided i n) (never lib arch fits sink failed undecided i n uncut)))
-      (sym (all_same lib right up up_whole value 0 (members_from undecided i n) (never lib arch fits sink failed undecided i n uncut)))
+    pub where_safe : end.0 ≡ 0 → end.1 ≡ 0 → parts lib arch sink (has (union failed undecided)) ≡ false → end ≡ left
+    where_safe lower upper uncut = paired end.0 end.1 left
+        (lower ∙ sym (all_same lib right down down_whole value 0 (members_from undecided i n) (never lib arch fits sink failed undecided i n uncut)))
+        (upper ∙ sym (all_same lib right up up_whole value 0 (members_from undecided i n) (never lib arch fits sink failed undecided i n uncut)))
 
-  -- no undecided member is left
-  pub where_done : parts lib arch sink (has failed) ≡ false → ((k : ℕ) → i ≤ k → has undecided k ≡ false) → let q : ℕ × ℕ = (0, 0) in q ≡ left
-  where_done uncut none =
-      let zero_here : value [] ≡ 0 = ap (λ b. cond b (10 ^ 18) 0) (false_if (parts lib arch sink (λ v. has failed v || is_in [] v)) (λ cut.
-      let all = parts_more lib arch fits sink (λ v. has failed v || is_in [] v) (has failed) (λ v here h. elim (or_cases (has failed v) (is_in [] v) h) [ inl old ↦ old | inr new ↦ absurd (let e : false ≡ true = new in cc) ]) cut in
-      let e : true ≡ false = sym all ∙ uncut in cc)) in
-      paired 0 0 left
-      (sym (ap (over_failures lib down value) (members_none undecided i n none) ∙ zero_here))
-      (sym (ap (over_failures lib up value) (members_none undecided i n none) ∙ zero_here))
+    -- no undecided member is left
+    pub where_done : end.0 ≡ 0 → end.1 ≡ 0 → parts lib arch sink (has failed) ≡ false → ((k : ℕ) → i ≤ k → has undecided k ≡ false) → end ≡ left
+    where_done lower upper uncut none =
+        let zero_here : value [] ≡ 0 = ap (λ b. cond b (10 ^ 18) 0) (false_if (parts lib arch sink (λ v. has failed v || is_in [] v)) (λ cut.
+        let all = parts_more lib arch fits sink (λ v. has failed v || is_in [] v) (has failed) (λ v here h. elim (or_cases (has failed v) (is_in [] v) h) [ inl old ↦ old | inr new ↦ absurd (let e : false ≡ true = new in cc) ]) cut in
+        let e : true ≡ false = sym all ∙ uncut in cc)) in
+        paired end.0 end.1 left
+        (lower ∙ sym (ap (over_failures lib down value) (members_none undecided i n none) ∙ zero_here))
+        (upper ∙ sym (ap (over_failures lib up value) (members_none undecided i n none) ∙ zero_here))
 
   module _ (v : ℕ) (low : i ≤ v) (high : v < n) (none : (j : ℕ) → i ≤ j → j < v → has undecided j ≡ false) (here : has undecided v ≡ true)
       (more rest : Set) (put_in : more ≡ put failed v) (taken : rest ≡ minus undecided (put empty v)) where

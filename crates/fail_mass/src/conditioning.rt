@@ -4,7 +4,7 @@ ghost use Rattle.std.specs.Option.{option_map};
 ghost use Rattle.arch_model.specs.Set as set;
 ghost use Rattle.fail_mass.specs.Inner.Networks.{IsNetwork, AreMembers, is_parted, enclosure_from};
 
-use crate::mixing::{MILLION, ONE, both};
+use crate::mixing::{MILLION, both, settled};
 use crate::network::Network;
 use arch_model::limits::MEMBERS;
 use arch_model::{MemberSet, VarId, fail};
@@ -52,7 +52,7 @@ pub(crate) fn where_failed(
     ensures high { result.1 ≤ 10 ^ 18 }
 {
     match net.mattering(failed, undecided) {
-        None => (ONE, ONE),
+        None => settled(true),
         Some(left) => split(net, failed, &left, from),
     }
 }
@@ -75,7 +75,7 @@ fn where_reached(
     if net.is_parted(&failed.union(undecided)) {
         split(net, failed, undecided, from)
     } else {
-        (0, 0)
+        settled(false)
     }
 }
 
@@ -91,7 +91,7 @@ fn split(net: &Network, failed: &MemberSet, undecided: &MemberSet, from: usize) 
     ensures high { result.1 ≤ 10 ^ 18 }
 {
     match next_of(undecided, from) {
-        None => (0, 0),
+        None => settled(false),
         Some(member) => {
             let rest = but(undecided, member);
             let after = member.0 as usize + 1;

@@ -1,13 +1,24 @@
-// The value of a member's two cases, and its two roundings.
+// The values of cases: where nothing more matters, and of a member's two cases.
 ghost use Rattle.std.specs.Prelude.{◌≡◌, ℕ, ◌≤◌, ◌/◌, ◌^◌};
 ghost use Rattle.arch_model.specs.Mass as mass;
 ghost use Rattle.arch_model.specs.Weight.{ceil_div};
+ghost use Rattle.fail_mass.specs.Inner.Cases.{end_value};
 
-/// What stands for 1.
-pub(crate) const ONE: u64 = 1_000_000_000_000_000_000;
+// What stands for 1.
+const ONE: u64 = 1_000_000_000_000_000_000;
 
 /// How many parts a rate is counted in.
 pub(crate) const MILLION: u32 = 1_000_000;
+
+/// Both values where nothing more matters: 1 where the sink is parted, else 0.
+pub(crate) fn settled(parted: bool) -> (u64, u64)
+    ensures low { result.0 ≡ end_value parted }
+    ensures high { result.1 ≡ end_value parted }
+    ensures low_small { result.0 ≤ 10 ^ 18 }
+    ensures high_small { result.1 ≤ 10 ^ 18 }
+{
+    if parted { (ONE, ONE) } else { (0, 0) }
+}
 
 // p ppm of the value where a member failed and the rest of 10^6 of the other, before it is divided.
 fn mixed(ppm: u32, failed: u64, working: u64) -> u128

@@ -63,8 +63,8 @@ impl<'a> Network<'a> {
     fn above(&self, failed: &MemberSet) -> CompSet
         requires network { IsNetwork self.now }
         requires in_range { self.now.sink.0 < length self.now.lib.now.components }
-        ensures { (c : ℕ) → IsTrue (set.has result c)
-            ↔ ((rest : List ℕ) × LeadsTo self.now.lib.now self.now.arch.now self.now.sink.0 (set.has failed.now) (c ∷ rest)) }
+        ensures { (c : ℕ) → IsTrue (set.has result c) ↔ ((rest : List ℕ)
+            × LeadsTo self.now.lib.now self.now.arch.now self.now.sink.0 (set.has failed.now) (c ∷ rest)) }
     {
         if self.are_components(failed) {
             ancestors_over(self.lib, self.arch, self.sink, &self.links, failed)

@@ -12,9 +12,13 @@ use Rattle.arch_model.specs.Mass.{over_failures}
 abbrev pub may_fail : LibraryParts → ArchitectureParts → ℕ → Bool
 may_fail lib arch v = is_present lib arch v && nat_lt 0 (fail_of lib v)
 
--- 10^18 where the members of a set and those of a list together part the sink, else 0
+-- 10^18 where the sink is parted, else 0
+abbrev pub end_value : Bool → ℕ
+end_value parted = if parted then 10 ^ 18 else 0
+
+-- that where the members of a set and those of a list have failed
 abbrev pub value_with : LibraryParts → ArchitectureParts → ℕ → Set → List ℕ → ℕ
-value_with lib arch sink failed more = if parts lib arch sink (λ v. has failed v || is_in more v) then 10 ^ 18 else 0
+value_with lib arch sink failed more = end_value (parts lib arch sink (λ v. has failed v || is_in more v))
 
 -- the enclosure over the failures of some members where others have failed, in units of 10^-18, rounded down and up
 abbrev pub enclosure_with : LibraryParts → ArchitectureParts → ℕ → Set → List ℕ → ℕ × ℕ

@@ -8,17 +8,18 @@ use Rattle.fail_mass.proofs.conditioning.+conditioning.Goals as goal
 pub where_failed-returns-in-None-clause-value : goal.where_failed-returns-in-None-clause-value
 where_failed-returns-in-None-clause-value t c =
     where_cut c.args.net.now.lib.now c.requires.network.library c.args.net.now.arch.now c.requires.network.architecture c.args.net.now.sink.0 c.args.failed.now c.args.undecided.now c.args.from (member_count c.args.net.now.lib.now)
-    c.in-None.ensures.parted
+    c.settled.result c.settled.ensures.low c.settled.ensures.high c.in-None.ensures.parted
 
 pub where_reached-returns-else-is_parted-clause-value : goal.where_reached-returns-else-is_parted-clause-value
 where_reached-returns-else-is_parted-clause-value t c =
     where_safe c.args.net.now.lib.now c.requires.network.library c.args.net.now.arch.now c.requires.network.architecture c.args.net.now.sink.0 c.args.failed.now c.args.undecided.now c.args.from (member_count c.args.net.now.lib.now)
+    c.settled.result c.settled.ensures.low c.settled.ensures.high
     (ap (λ s. parts c.args.net.now.lib.now c.args.net.now.arch.now c.args.net.now.sink.0 (has s)) (sym c.union.ensures) ∙ sym c.is_parted.ensures ∙ c.if-is_parted.false)
 
 pub split-returns-in-None-clause-value : goal.split-returns-in-None-clause-value
 split-returns-in-None-clause-value t c =
     where_done c.args.net.now.lib.now c.requires.network.library c.args.net.now.arch.now c.requires.network.architecture c.args.net.now.sink.0 c.args.failed.now c.args.undecided.now c.args.from (member_count c.args.net.now.lib.now)
-    c.requires.reached c.in-None.ensures
+    c.settled.result c.settled.ensures.low c.settled.ensures.high c.requires.reached c.in-None.ensures
 
 pub split-returns-then-ppm-eq-MILLION-clause-value : goal.split-returns-then-ppm-eq-MILLION-clause-value
 split-returns-then-ppm-eq-MILLION-clause-value t c =
