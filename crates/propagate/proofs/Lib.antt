@@ -1,0 +1,4 @@
+pub mod OneClosure
+pub mod WayLaws
+pub mod Promise
+pub mod FreeMembers
