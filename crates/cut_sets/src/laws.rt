@@ -13,7 +13,8 @@ ghost use Rattle.cut_sets.specs.CutSets.{cut_sets_of};
 /// The list has exactly the minimal cut sets whose products are above 0.
 pub fn cut_sets_are_listed()
     ensures { (lib : LibraryParts) (arch : ArchitectureParts) → IsArchitecture lib arch → (sink : ℕ) (members : List ℕ)
-        → Contains (cut_sets_of lib arch sink) members ↔ (IsMinimalCutSet lib arch sink members × (0 < product_of lib members)) }
+        → Contains (cut_sets_of lib arch sink) members
+        ↔ (IsMinimalCutSet lib arch sink members × (0 < product_of lib members)) }
 {}
 
 /// The list ascends in the order of slices, so each set stands in it once.

@@ -77,8 +77,9 @@ impl<'a> Network<'a> {
     // Whether some members part the sink no longer without any one of them.
     pub(crate) fn is_minimal(&self, members: &MemberSet) -> bool
         requires { (v : ℕ) → IsTrue (set.has members.now v) → IsTrue (set.has self.now.candidates v) }
-        ensures { result
-            ≡ list_all (λ c. not (parts self.now.lib self.now.arch self.now.sink (set.has (set.minus members.now (set.put set.empty c)))))
+        ensures { result ≡ list_all
+            (λ c. not (parts self.now.lib self.now.arch self.now.sink
+            (set.has (set.minus members.now (set.put set.empty c)))))
             (set.members_below members.now MEMBERS) }
     {
         for v in members.members() {
@@ -96,7 +97,8 @@ impl<'a> Network<'a> {
         requires network { IsNetwork self.now }
         requires chosen { (v : ℕ) → IsTrue (is_in place.now.chosen v) → IsTrue (set.has self.now.candidates v) }
         ensures chosen { (v : ℕ) → IsTrue (is_in place.now.chosen v) → IsTrue (set.has result v) }
-        ensures candidates { (v : ℕ) → IsTrue (is_in (candidates_from self.now place.now.at) v) → IsTrue (set.has result v) }
+        ensures candidates { (v : ℕ) → IsTrue (is_in (candidates_from self.now place.now.at) v)
+            → IsTrue (set.has result v) }
         ensures inside { (v : ℕ) → IsTrue (set.has result v) → IsTrue (set.has self.now.candidates v) }
     {
         let mut wide = place.set();

@@ -65,7 +65,8 @@ impl Links {
     /// The present components to which one of the edges leads from one of some components.
     pub fn heads(&self, arch: &Architecture, of: &CompSet) -> CompSet
         ensures { (c : ℕ) → set.has result c
-            ≡ (set.has arch.now.comps c && list_any (λ a. is_next self.now.down a c) (set.members_below of.now COMPONENTS)) }
+            ≡ (set.has arch.now.comps c
+            && list_any (λ a. is_next self.now.down a c) (set.members_below of.now COMPONENTS)) }
     {
         entered(&self.down, &arch.comps(), of)
     }
@@ -73,7 +74,8 @@ impl Links {
     /// The present components from which one of the edges leads to one of some components.
     pub fn tails(&self, arch: &Architecture, of: &CompSet) -> CompSet
         ensures { (c : ℕ) → set.has result c
-            ≡ (set.has arch.now.comps c && list_any (λ a. is_next self.now.up a c) (set.members_below of.now COMPONENTS)) }
+            ≡ (set.has arch.now.comps c
+            && list_any (λ a. is_next self.now.up a c) (set.members_below of.now COMPONENTS)) }
     {
         entered(&self.up, &arch.comps(), of)
     }

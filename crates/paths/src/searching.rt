@@ -19,7 +19,8 @@ pub(crate) fn reached_from_sources(
     failed: &MemberSet,
 ) -> CompSet
     requires architecture { IsArchitecture lib.now arch.now }
-    requires rows { (a : ℕ) (c : ℕ) → is_next down.now a c ≡ leads Down (live_edges lib.now arch.now (set.has failed.now)) a c }
+    requires rows { (a : ℕ) (c : ℕ) → is_next down.now a c
+        ≡ leads Down (live_edges lib.now arch.now (set.has failed.now)) a c }
     ensures { (c : ℕ) → IsTrue (set.has result c)
         ↔ ((path : List ℕ) × IsPath lib.now arch.now c (set.has failed.now) path) }
 {
@@ -37,7 +38,8 @@ pub(crate) fn leading_to(
 ) -> CompSet
     requires architecture { IsArchitecture lib.now arch.now }
     requires in_range { sink.0 < length lib.now.components }
-    requires rows { (a : ℕ) (c : ℕ) → is_next up.now a c ≡ leads Up (live_edges lib.now arch.now (set.has failed.now)) a c }
+    requires rows { (a : ℕ) (c : ℕ) → is_next up.now a c
+        ≡ leads Up (live_edges lib.now arch.now (set.has failed.now)) a c }
     ensures { (c : ℕ) → IsTrue (set.has result c)
         ↔ ((rest : List ℕ) × LeadsTo lib.now arch.now sink.0 (set.has failed.now) (c ∷ rest)) }
 {
