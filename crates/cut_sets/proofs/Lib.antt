@@ -1,0 +1,11 @@
+pub mod Filters
+pub mod Products
+pub mod Beyond
+pub mod Places
+pub mod Starts
+pub mod Steps
+pub mod Loops
+pub mod Listed
+pub mod Ordered
+pub mod Pruning
+pub mod Spent

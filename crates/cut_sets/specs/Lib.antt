@@ -1,0 +1,2 @@
+pub mod CutSets
+pub mod Inner

@@ -1,0 +1,166 @@
+// An architecture as an enumeration sees it, and its questions to it.
+ghost use Rattle.std.specs.Prelude.{◌≡◌, ℕ, ◌<◌, ◌↔◌, List, length, IsTrue, not};
+ghost use Rattle.std.specs.List.{list_all};
+ghost use Rattle.arch_model.specs.Set as set;
+ghost use Rattle.arch_model.specs.Library.{IsLibrary};
+ghost use Rattle.arch_model.specs.Architecture.{IsArchitecture};
+ghost use Rattle.arch_model.specs.Member.{is_in};
+ghost use Rattle.arch_model.specs.Path.{IsPath, parts};
+ghost use Rattle.arch_model.specs.declared.limits.TheConstants.{MEMBERS};
+ghost use Rattle.paths.specs.Inner.Links.{AreLinks};
+ghost use Rattle.cut_sets.specs.Inner.Upcoming.{IsNetwork, IsPlace, IsNextChoice, candidates_from};
+
+use crate::candidates::candidates;
+use crate::place::Place;
+use crate::useful::{Failing, passed, sides_of};
+use arch_model::{Architecture, CompId, CompSet, Library, MemberSet, VarId};
+use paths::{Links, links_of, reach_over};
+use std::marker::Model;
+
+// A library's architecture, one of its components, and the members that may be in a set.
+#[derive(Drop)]
+pub(crate) struct Network<'a> {
+    lib: &'a Library,
+    arch: Architecture,
+    sink: CompId,
+    candidates: MemberSet,
+    // all present edges, and whether one of them is a candidate
+    links: Links,
+    edges_fail: bool,
+}
+
+impl<'a> Model for Network<'a> {
+    ghost use Rattle.std.specs.Prelude.{◌≡◌, ℕ, ◌≤◌, false, length};
+    ghost use Rattle.arch_model.specs.Set.{has, empty};
+    ghost use Rattle.paths.specs.Inner.Links.{AreLinks};
+    ghost use Rattle.cut_sets.specs.Inner.Upcoming.{NetworkParts, IsNetwork};
+
+    ghost Value = { NetworkParts };
+
+    ghost view = { λ a. record { lib = a.lib.now; arch = a.arch; sink = a.sink.0; candidates = a.candidates } };
+
+    ghost invariant = { λ a. record {
+      network : IsNetwork (record { lib = a.lib.now; arch = a.arch; sink = a.sink.0; candidates = a.candidates });
+      links : AreLinks a.lib.now a.arch (has empty) a.links;
+      edges : a.edges_fail ≡ false → (v : ℕ) → length a.lib.now.components ≤ v → has a.candidates v ≡ false;
+    } };
+}
+
+impl<'a> Network<'a> {
+    pub(crate) fn new(lib: &'a Library, arch: &Architecture, sink: CompId) -> Network<'a>
+        requires { IsArchitecture lib.now arch.now }
+        ensures lib { result.lib ≡ lib.now }
+        ensures arch { result.arch ≡ arch.now }
+        ensures sink { result.sink ≡ sink.0 }
+        ensures network { IsNetwork result }
+        ensures library { IsLibrary lib.now }
+    {
+        let candidates = candidates(lib, arch);
+        Network {
+            lib,
+            arch: *arch,
+            sink,
+            candidates,
+            links: links_of(lib, arch, &MemberSet::new()),
+            edges_fail: !candidates.is_below(lib.components().len()),
+        }
+    }
+
+    // Whether some failed members part the sink.
+    pub(crate) fn cuts(&self, failed: &MemberSet) -> bool
+        requires { (v : ℕ) → IsTrue (set.has failed.now v) → IsTrue (set.has self.now.candidates v) }
+        ensures { result ≡ parts self.now.lib self.now.arch self.now.sink (set.has failed.now) }
+    {
+        !self.reached(&self.failing(*failed)).has(self.sink)
+    }
+
+    // Whether some members part the sink no longer without any one of them.
+    pub(crate) fn is_minimal(&self, members: &MemberSet) -> bool
+        requires { (v : ℕ) → IsTrue (set.has members.now v) → IsTrue (set.has self.now.candidates v) }
+        ensures { result
+            ≡ list_all (λ c. not (parts self.now.lib self.now.arch self.now.sink (set.has (set.minus members.now (set.put set.empty c)))))
+            (set.members_below members.now MEMBERS) }
+    {
+        for v in members.members() {
+            let mut one = MemberSet::new();
+            one.put(v);
+            if self.cuts(&members.minus(&one)) {
+                return false;
+            }
+        }
+        true
+    }
+
+    // The chosen members and all candidates that are not decided.
+    fn undecided(&self, place: &Place) -> MemberSet
+        requires network { IsNetwork self.now }
+        requires chosen { (v : ℕ) → IsTrue (is_in place.now.chosen v) → IsTrue (set.has self.now.candidates v) }
+        ensures chosen { (v : ℕ) → IsTrue (is_in place.now.chosen v) → IsTrue (set.has result v) }
+        ensures candidates { (v : ℕ) → IsTrue (is_in (candidates_from self.now place.now.at) v) → IsTrue (set.has result v) }
+        ensures inside { (v : ℕ) → IsTrue (set.has result v) → IsTrue (set.has self.now.candidates v) }
+    {
+        let mut wide = place.set();
+        for v in self.candidates.members() {
+            if place.at() <= v.0 as usize {
+                wide.put(v);
+            }
+        }
+        wide
+    }
+
+    // Some candidates as failed members. Where no edge is a candidate, no table is made anew.
+    fn failing(&self, members: MemberSet) -> Failing
+        requires { (v : ℕ) → IsTrue (set.has members v) → IsTrue (set.has self.now.candidates v) }
+        ensures members { result.members ≡ members }
+        ensures links { AreLinks self.now.lib self.now.arch (set.has members) result.links }
+    {
+        let links = if self.edges_fail {
+            links_of(self.lib, &self.arch, &members)
+        } else {
+            self.links
+        };
+        Failing { members, links }
+    }
+
+    // The components to which a path leads where some members have failed.
+    fn reached(&self, failing: &Failing) -> CompSet
+        requires { AreLinks self.now.lib self.now.arch (set.has failing.now.members) failing.now.links }
+        ensures { (c : ℕ) → IsTrue (set.has result c)
+            ↔ ((path : List ℕ) × IsPath self.now.lib self.now.arch c (set.has failing.now.members) path) }
+    {
+        reach_over(self.lib, &self.arch, &failing.links, &failing.members)
+    }
+
+    // Whether the sink is a component at all.
+    fn has_sink(&self) -> bool
+        ensures { IsTrue result ↔ (self.now.sink < length self.now.lib.components) }
+    {
+        (self.sink.0 as usize) < self.lib.components().len()
+    }
+
+    // The next candidate to choose: the least from a place on that can be needed beside the chosen
+    // members. None where no set has these at its front, since they and all candidates that are not
+    // decided leave a path, or one that is chosen can't be needed, or no other can.
+    pub(crate) fn next_useful(&self, place: &Place) -> Option<VarId>
+        requires network { IsNetwork self.now }
+        requires place { IsPlace self.now place.now }
+        ensures { IsNextChoice self.now place.now result }
+    {
+        if !self.has_sink() {
+            return None;
+        }
+        let chosen = self.failing(place.set());
+        let wide = self.failing(self.undecided(place));
+        let reached = self.reached(&wide);
+        if reached.has(self.sink) {
+            return None;
+        }
+        let sides = sides_of(self.lib, &self.arch, self.sink, &chosen, &wide, &reached);
+        let useful = passed(self.lib, self.sink, &sides, &wide.members);
+        if let Some(_stranded) = chosen.members.minus(&useful).next_from(0) {
+            return None;
+        }
+        let next = useful.next_from(place.at())?;
+        Some(VarId(next as u32))
+    }
+}

@@ -1,0 +1,361 @@
+// Weights and heaviest sets of small networks, worked out by hand.
+ghost use Rattle.arch_model.specs.Name.{IsTypeName};
+
+use crate::{heaviest, weight};
+use arch_model::{
+    Architecture, CompId, CompSet, Component, Edge, EdgeId, EdgeSet, Library, LinkRow, Name, Role,
+    Template, TypeRow, VarId, fits, is_library,
+};
+use std::alloc::Global;
+use std::process::Abort;
+use std::test::Fail;
+
+// A type of at most `max` instances, each of which fails `fail` times in a million.
+fn row(name: &str, role: Role, max: u32, fail: u32) -> TypeRow
+    requires { IsTypeName name.now }
+{
+    TypeRow {
+        name: Name::new(name),
+        role,
+        max,
+        cost: 0,
+        supply: 0,
+        demand: 0,
+        fail,
+    }
+}
+
+// The components of some types.
+fn components(alloc: Global, types: &[TypeRow]) -> Result<Vec<Component>, Fail> {
+    let mut components = Vec::new(alloc);
+    let mut of: u32 = 0;
+    for row in types {
+        for i in 0..row.max {
+            components.push(Component {
+                of,
+                index: i + 1,
+                role: row.role,
+                cost: row.cost,
+                supply: row.supply,
+                demand: row.demand,
+                fail: row.fail,
+            })?;
+        }
+        of = of.wrapping_add(1);
+    }
+    Ok(components)
+}
+
+// Appends the edges of a link that leave one component.
+fn push_edges(
+    edges: &mut Vec<Edge>,
+    components: &[Component],
+    link: &LinkRow,
+    tail: u32,
+) -> Result<(), Fail> {
+    let mut head: u32 = 0;
+    for component in components {
+        if component.of == link.to && head != tail {
+            edges.push(Edge {
+                tail: CompId(tail),
+                head: CompId(head),
+                cost: link.cost,
+                fail: link.fail,
+            })?;
+        }
+        head = head.wrapping_add(1);
+    }
+    Ok(())
+}
+
+// The edges of some links.
+fn edges(alloc: Global, components: &[Component], links: &[LinkRow]) -> Result<Vec<Edge>, Fail> {
+    let mut edges = Vec::new(alloc);
+    for link in links {
+        let mut tail: u32 = 0;
+        for component in components {
+            if component.of == link.from {
+                push_edges(&mut edges, components, link, tail)?;
+            }
+            tail = tail.wrapping_add(1);
+        }
+    }
+    Ok(edges)
+}
+
+// A link by the numbers of its types, whose edges fail `fail` times in a million.
+fn link(from: u32, to: u32, fail: u32) -> LinkRow {
+    LinkRow {
+        from,
+        to,
+        cost: 0,
+        fail,
+    }
+}
+
+// The library of some types and links.
+fn library(
+    rt: &(impl Abort + AllocGlobal),
+    types: &[TypeRow],
+    links: &[LinkRow],
+) -> Result<Library, Fail> {
+    let links = links.to_vec(rt.alloc())?;
+    let types = types.to_vec(rt.alloc())?;
+    let components = components(rt.alloc(), &types)?;
+    let edges = edges(rt.alloc(), &components, &links)?;
+    let template = Template::new(components, edges);
+    let patterns = Vec::new(rt.alloc());
+    let requirements = Vec::new(rt.alloc());
+    assert!(rt; is_library(&types, &links, &template, &patterns, &requirements));
+    Ok(Library::new(types, links, template, patterns, requirements))
+}
+
+// Some components.
+fn comps(numbers: &[u32]) -> CompSet {
+    let mut set = CompSet::new();
+    for c in numbers {
+        if *c < 64 {
+            set.put(CompId(*c));
+        }
+    }
+    set
+}
+
+// Some components and edges.
+fn architecture(components: &[u32], edges: &[u32]) -> Architecture {
+    let mut set = EdgeSet::new();
+    for e in edges {
+        if *e < 512 {
+            set.put(EdgeId(*e));
+        }
+    }
+    Architecture::new(comps(components), set)
+}
+
+// Whether members have these numbers.
+fn are(members: &[VarId], numbers: &[u32]) -> bool {
+    members.len() == numbers.len() && members.iter().zip(numbers).all(|(v, n)| v.0 == *n)
+}
+
+// Two generators, two buses and a load. Components 0 to 4 are gen.1, gen.2, bus.1, bus.2 and
+// load.1. Edges 0 to 3 are from gen.1 to each bus and from gen.2 to each bus, and edges 4 and 5
+// from each bus to the load; edge e is member 5 + e.
+fn buses(rt: &(impl Abort + AllocGlobal)) -> Result<Library, Fail> {
+    let types = [
+        row("gen", Role::Source, 2, 1000),
+        row("bus", Role::Middle, 2, 100),
+        row("load", Role::Sink, 1, 0),
+    ];
+    library(rt, &types, &[link(0, 1, 0), link(1, 2, 0)])
+}
+
+// A source a that feeds the sink t, and a source c that feeds it through b1 and b2. Components 0 to
+// 4 are a, c, b1, b2 and t. Edges are a to t, c to b1, b1 to b2 and b2 to t.
+fn bypass(rt: &(impl Abort + AllocGlobal)) -> Result<Library, Fail> {
+    let types = [
+        row("a", Role::Source, 1, 200_000),
+        row("c", Role::Source, 1, 0),
+        row("b1", Role::Middle, 1, 600_000),
+        row("b2", Role::Middle, 1, 600_000),
+        row("t", Role::Sink, 1, 0),
+    ];
+    library(
+        rt,
+        &types,
+        &[link(0, 4, 0), link(1, 2, 0), link(2, 3, 0), link(3, 4, 0)],
+    )
+}
+
+// A source that feeds a sink.
+fn pair(
+    rt: &(impl Abort + AllocGlobal),
+    source: u32,
+    joined: u32,
+    sink: u32,
+) -> Result<Library, Fail> {
+    let types = [
+        row("s", Role::Source, 1, source),
+        row("t", Role::Sink, 1, sink),
+    ];
+    library(rt, &types, &[link(0, 1, joined)])
+}
+
+// That a sink weighs this much, and has this heaviest set, or none.
+fn expect(
+    rt: &(impl Abort + AllocGlobal),
+    lib: &Library,
+    arch: &Architecture,
+    sink: u32,
+    weighs: u128,
+    set: Option<&'static [u32]>,
+) {
+    assert!(rt; fits(lib, arch));
+    assert_eq!(rt; weight(rt.alloc(), lib, arch, CompId(sink)), weighs);
+    let found = heaviest(rt.alloc(), lib, arch, CompId(sink));
+    match (&found, set) {
+        (Some(members), Some(numbers)) => assert!(rt; are(members.as_slice(), numbers)),
+        (None, None) => {}
+        _ => assert!(rt; false),
+    }
+}
+
+#[test]
+fn buses_weigh_by_their_links(rt: HostRuntime) -> Result<(), Fail> {
+    let lib = buses(&rt)?;
+    let chain = architecture(&[0, 2, 4], &[0, 4]);
+    expect(&rt, &lib, &chain, 4, 1_100_000_000_000_000, Some(&[0]));
+    let two_buses = architecture(&[0, 2, 3, 4], &[0, 1, 4, 5]);
+    expect(&rt, &lib, &two_buses, 4, 1_000_010_000_000_000, Some(&[0]));
+    let two_generators = architecture(&[0, 1, 2, 4], &[0, 2, 4]);
+    expect(
+        &rt,
+        &lib,
+        &two_generators,
+        4,
+        101_000_000_000_000,
+        Some(&[2]),
+    );
+    let two_chains = architecture(&[0, 1, 2, 3, 4], &[0, 3, 4, 5]);
+    expect(&rt, &lib, &two_chains, 4, 1_210_000_000_000, Some(&[0, 1]));
+    let three_links = architecture(&[0, 1, 2, 3, 4], &[0, 1, 3, 4, 5]);
+    expect(&rt, &lib, &three_links, 4, 1_110_000_000_000, Some(&[0, 1]));
+    let all = architecture(&[0, 1, 2, 3, 4], &[0, 1, 2, 3, 4, 5]);
+    expect(&rt, &lib, &all, 4, 1_010_000_000_000, Some(&[0, 1]));
+    Ok(())
+}
+
+#[test]
+fn a_sink_that_nothing_reaches_weighs_1(rt: HostRuntime) -> Result<(), Fail> {
+    let lib = buses(&rt)?;
+    let alone = architecture(&[4], &[]);
+    expect(&rt, &lib, &alone, 4, 1_000_000_000_000_000_000, Some(&[]));
+    let absent = architecture(&[0, 2], &[0]);
+    expect(&rt, &lib, &absent, 4, 1_000_000_000_000_000_000, Some(&[]));
+    Ok(())
+}
+
+#[test]
+fn more_edges_may_weigh_more(rt: HostRuntime) -> Result<(), Fail> {
+    let lib = bypass(&rt)?;
+    let direct = architecture(&[0, 4], &[0]);
+    expect(&rt, &lib, &direct, 4, 200_000_000_000_000_000, Some(&[0]));
+    let all = architecture(&[0, 1, 2, 3, 4], &[0, 1, 2, 3]);
+    expect(&rt, &lib, &all, 4, 240_000_000_000_000_000, Some(&[0, 2]));
+    let long = architecture(&[1, 2, 3, 4], &[1, 2, 3]);
+    expect(&rt, &lib, &long, 4, 1_200_000_000_000_000_000, Some(&[2]));
+    Ok(())
+}
+
+#[test]
+fn products_are_rounded_up_at_each_member(rt: HostRuntime) -> Result<(), Fail> {
+    let types = [row("s", Role::Source, 4, 1), row("t", Role::Sink, 1, 0)];
+    let lib = library(&rt, &types, &[link(0, 1, 0)])?;
+    let four = architecture(&[0, 1, 2, 3, 4], &[0, 1, 2, 3]);
+    expect(&rt, &lib, &four, 4, 1, Some(&[0, 1, 2, 3]));
+    let three = architecture(&[0, 1, 2, 4], &[0, 1, 2]);
+    expect(&rt, &lib, &three, 4, 1, Some(&[0, 1, 2]));
+    Ok(())
+}
+
+#[test]
+fn of_equal_products_the_least_list_is_the_heaviest(rt: HostRuntime) -> Result<(), Fail> {
+    let whole = architecture(&[0, 1], &[0]);
+    let alike = pair(&rt, 500, 500, 500)?;
+    expect(&rt, &alike, &whole, 1, 1_500_000_000_000_000, Some(&[0]));
+    let link_alone = pair(&rt, 0, 500, 0)?;
+    expect(&rt, &link_alone, &whole, 1, 500_000_000_000_000, Some(&[2]));
+    expect(&rt, &pair(&rt, 0, 0, 0)?, &whole, 1, 0, None);
+    Ok(())
+}
+
+// Two buses that feed each other, of which the generator feeds one and the load is fed by the
+// other.
+#[test]
+fn a_circle_is_no_way_around(rt: HostRuntime) -> Result<(), Fail> {
+    let types = [
+        row("gen", Role::Source, 1, 1000),
+        row("bus", Role::Middle, 2, 100),
+        row("load", Role::Sink, 1, 0),
+    ];
+    let lib = library(&rt, &types, &[link(0, 1, 0), link(1, 2, 0), link(1, 1, 0)])?;
+    let circle = architecture(&[0, 1, 2, 3], &[0, 3, 4, 5]);
+    expect(&rt, &lib, &circle, 3, 1_200_000_000_000_000, Some(&[0]));
+    Ok(())
+}
+
+// The types of an aircraft's power network with a left, right, auxiliary and emergency side:
+// generators 0 to 3, then buses 4 to 7, converters 8 to 11, buses 12 to 15 behind them, and the
+// loads flight, avionics and cabin 16 to 18.
+fn aircraft_types() -> [TypeRow; 19] {
+    [
+        row("lgen", Role::Source, 1, 100),
+        row("rgen", Role::Source, 1, 100),
+        row("apu", Role::Source, 1, 500),
+        row("rat", Role::Source, 1, 2000),
+        row("lac", Role::Middle, 1, 10),
+        row("rac", Role::Middle, 1, 10),
+        row("sac", Role::Middle, 1, 10),
+        row("eac", Role::Middle, 1, 10),
+        row("ltru", Role::Middle, 1, 50),
+        row("rtru", Role::Middle, 1, 50),
+        row("stru", Role::Middle, 1, 50),
+        row("etru", Role::Middle, 1, 50),
+        row("ldc", Role::Middle, 1, 10),
+        row("rdc", Role::Middle, 1, 10),
+        row("sdc", Role::Middle, 1, 10),
+        row("edc", Role::Middle, 1, 10),
+        row("flight", Role::Sink, 1, 0),
+        row("avionics", Role::Sink, 1, 0),
+        row("cabin", Role::Sink, 1, 0),
+    ]
+}
+
+// The aircraft's links: down the four sides, then from all sides to flight, from left and right to
+// avionics, and from left and auxiliary to cabin.
+fn aircraft(rt: &(impl Abort + AllocGlobal)) -> Result<Library, Fail> {
+    let ends = [
+        (0, 4),
+        (1, 5),
+        (2, 6),
+        (3, 7),
+        (4, 8),
+        (5, 9),
+        (6, 10),
+        (7, 11),
+        (8, 12),
+        (9, 13),
+        (10, 14),
+        (11, 15),
+        (12, 16),
+        (13, 16),
+        (14, 16),
+        (15, 16),
+        (12, 17),
+        (13, 17),
+        (12, 18),
+        (14, 18),
+    ];
+    let mut links = Vec::new(rt.alloc());
+    for (from, to) in ends {
+        links.push(link(from, to, 0))?;
+    }
+    library(rt, &aircraft_types(), &links)
+}
+
+// The left, right and emergency sides are enough for flight, which is weighed too without the
+// emergency side's last edge.
+#[test]
+fn an_aircraft_needs_its_emergency_side(rt: HostRuntime) -> Result<(), Fail> {
+    let lib = aircraft(&rt)?;
+    let comps = [0, 1, 3, 4, 5, 7, 8, 9, 11, 12, 13, 15, 16, 17, 18];
+    let cheapest = architecture(
+        &comps,
+        &[0, 1, 3, 4, 5, 7, 8, 9, 11, 12, 13, 15, 16, 17, 18],
+    );
+    expect(&rt, &lib, &cheapest, 16, 59_823_000, Some(&[0, 1, 3]));
+    expect(&rt, &lib, &cheapest, 17, 28_900_000_000, Some(&[0, 1]));
+    expect(&rt, &lib, &cheapest, 18, 170_000_000_000_000, Some(&[0]));
+    let two_sides = architecture(&comps, &[0, 1, 3, 4, 5, 7, 8, 9, 11, 12, 13, 16, 17, 18]);
+    expect(&rt, &lib, &two_sides, 16, 28_900_000_000, Some(&[0, 1]));
+    Ok(())
+}
