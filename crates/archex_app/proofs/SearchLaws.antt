@@ -32,7 +32,7 @@ own_vector lib arch v short = refl
 
 -- a candidate's vector meets all base rows
 meets_rows : (problem : ProblemParts) (arch : ArchitectureParts) → IsProblem problem → IsCandidate problem.library arch → All (λ row. RowHolds row (is_present problem.library arch)) problem.base
-meets_rows problem arch is candidate = (is.exact (is_present problem.library arch)).1 (arch, own_vector problem.library arch, candidate)
+meets_rows problem arch is candidate = (is.decide.exact (is_present problem.library arch)).1 (arch, own_vector problem.library arch, candidate)
 
 -- so it lies in no cube where one of them is refuted
 none_refuted : (rows : List RowParts) (cube : CubeParts) (x : ℕ → Bool) → LiesIn x cube → AllByRecursion (λ row. RowHolds row x) rows → list_any (λ row. is_refuted row cube) rows ≡ true → ⊥
@@ -79,9 +79,9 @@ all_hold n (row ∷ rows) cube full below none =
 module _ (problem : ProblemParts) (cube : CubeParts) (is : IsProblem problem) (fixed : FixesBelow (member_count problem.library) cube) (stands : list_any (λ row. is_refuted row cube) problem.base ≡ false) where
   candidate_of : (arch : ArchitectureParts) × IsVectorOf problem.library arch (has cube.ones) × IsCandidate problem.library arch
   candidate_of =
-      (is.exact (has cube.ones)).0 (All-from_recursion (λ (row : RowParts). RowHolds row (has cube.ones)) problem.base
+      (is.decide.exact (has cube.ones)).0 (All-from_recursion (λ (row : RowParts). RowHolds row (has cube.ones)) problem.base
       (all_hold (member_count problem.library) problem.base cube (full_is (member_count problem.library) cube fixed)
-      (recursion_from_All (IsRowBelow (member_count problem.library)) problem.base is.variables) stands))
+      (recursion_from_All (IsRowBelow (member_count problem.library)) problem.base is.decide.variables) stands))
 
   pub full_keeps_ends : IsLibrary problem.library → KeepsEnds problem.library (has cube.ones)
   full_keeps_ends right = vector_keeps_ends problem.library candidate_of.0 (has cube.ones) right candidate_of.1 candidate_of.2.meets.architecture

@@ -1,12 +1,13 @@
 -- Counts of faults by name: one change at a time.
-use Rattle.std.proofs.Common.{◌≡◌, ℕ, ◌≤◌, Bool, true, false, cond, refl, arith, option_map, unwrap_or, List, get_or, set, Option, Some, None, position, sym, ap, ◌∙◌, is_some, subst}
+use Rattle.std.proofs.Common.{◌≡◌, ◌≢◌, ℕ, ◌≤◌, ◌⊎◌, inl, inr, [], ◌∷◌, Bool, true, false, cond, refl, arith, option_map, unwrap_or, List, get_or, set, Option, Some, None, position, sym, ap, ◌∙◌, is_some, subst}
 use Rattle.std.specs.Str.{bytes_eq}
 use Rattle.outside.specs.declared.counts.Counts.{Counts}
 use Rattle.outside.specs.Named.{item_of, changed_at}
 use Rattle.std.proofs.lemmas.Iterator.Adapters.{option_map_id}
-use Rattle.outside.specs.Faults.{Rose}
+use Rattle.std.proofs.lemmas.Slice.Eq.{bytes_eq-Decides}
+use Rattle.outside.specs.Faults.{Rose, ChangesOnly}
 use Rattle.outside.specs.Counts.{FaultCounts, one_more, after_failed_read, after_failed_write, counts_of, counts_after}
-use Rattle.outside.proofs.NamedLaws.{item_of-place, changed_at-place, item_of-missing, item_of-changed_same, item_of-changed_related}
+use Rattle.outside.proofs.NamedLaws.{item_of-place, changed_at-place, item_of-missing, item_of-changed_same, item_of-changed_other, item_of-changed_related}
 
 -- a table of its two parts
 abbrev pub table : List (List ℕ × Counts) → Counts → FaultCounts
@@ -63,9 +64,12 @@ shared_raised : (change : Counts → Counts) (o : Option Counts) (c : Counts) �
 shared_raised change None c h = refl
 shared_raised change (Some x) c h = cc
 
-others_related : (o : Option Counts) (c d : Counts) → NoLess c d → NoLess (unwrap_or o c) (unwrap_or o d)
-others_related None c d h = h
-others_related (Some x) c d h = same_counts x
+pub related_apart : (P : Counts → Counts → Type 0) → ((x : Counts) → P x x) → (o : Option Counts) (c d : Counts) → P c d → P (unwrap_or o c) (unwrap_or o d)
+related_apart P same None c d h = h
+related_apart P same (Some x) c d h = same x
+
+pub differ : (b : Bool) → b ≡ true → b ≡ false → ⊥
+differ b p q = cc
 
 raised_of : (change : Counts → Counts) (c : FaultCounts) (name : List ℕ) → counts_of (counts_after change c name) name ≡ change (counts_of c name)
 raised_of change c name =
@@ -73,20 +77,21 @@ raised_of change c name =
     (λ own. ap (λ (o : Option Counts). unwrap_or o c.others) (item_of-changed_same name change c.named) ∙ own_raised change (item_of name c.named) c.others own)
     (λ missing. shared_raised change (item_of name c.named) c.others missing)
 
-no_less_of : (change : Counts → Counts) → ((x : Counts) → NoLess x (change x)) → (c : FaultCounts) (name other : List ℕ) → NoLess (counts_of c other) (counts_of (counts_after change c name) other)
-no_less_of change step c name other =
-    by_cases (λ (t : FaultCounts). NoLess (counts_of c other) (counts_of t other)) (is_some (item_of name c.named)) _ _
+-- what a fault of one name leaves of every name's counts: a relation that holds of both ends of the one change
+pub counts_related : (P : Counts → Counts → Type 0) → ((x : Counts) → P x x) → (change : Counts → Counts) → ((x : Counts) → P x (change x)) → (s t : FaultCounts) (name : List ℕ) → t ≡ counts_after change s name → (other : List ℕ) → P (counts_of s other) (counts_of t other)
+counts_related P same change step s t name e other =
+    subst (λ (w : FaultCounts). P (counts_of s other) (counts_of w other)) (sym e)
+    (by_cases (λ (w : FaultCounts). P (counts_of s other) (counts_of w other)) (is_some (item_of name s.named)) _ _
     (λ _.
-    let P : Option Counts → Option Counts → Type 0 = λ o p. NoLess (unwrap_or o c.others) (unwrap_or p c.others) in
-    let before : Option Counts = item_of other c.named in
-    let after : Option Counts = item_of other (changed_at name change c.named) in
-    let seen : P (option_map (λ x. x) before) (option_map (λ x. x) after) = item_of-changed_related NoLess (λ x. x) change same_counts step name other c.named c.others in
-    subst (λ (o : Option Counts). P o after) (option_map_id before) (subst (λ (p : Option Counts). P (option_map (λ x. x) before) p) (option_map_id after) seen))
-    (λ _. others_related (item_of other c.named) c.others (change c.others) (step c.others))
+    let Q : Option Counts → Option Counts → Type 0 = λ o p. P (unwrap_or o s.others) (unwrap_or p s.others) in
+    let before : Option Counts = item_of other s.named in
+    let after : Option Counts = item_of other (changed_at name change s.named) in
+    let seen : Q (option_map (λ x. x) before) (option_map (λ x. x) after) = item_of-changed_related P (λ x. x) change same step name other s.named s.others in
+    subst (λ (o : Option Counts). Q o after) (option_map_id before) (subst (λ (p : Option Counts). Q (option_map (λ x. x) before) p) (option_map_id after) seen))
+    (λ _. related_apart P same (item_of other s.named) s.others (change s.others) (step s.others)))
 
 pub counts-raised : (change : Counts → Counts) → ((x : Counts) → NoLess x (change x)) → (s t : FaultCounts) (name : List ℕ) → t ≡ counts_after change s name → (other : List ℕ) → NoLess (counts_of s other) (counts_of t other)
-counts-raised change step s t name e other =
-    subst (λ (w : FaultCounts). NoLess (counts_of s other) (counts_of w other)) (sym e) (no_less_of change step s name other)
+counts-raised change step s t name e other = counts_related NoLess same_counts change step s t name e other
 
 pub rose-reads : (s t : FaultCounts) (name : List ℕ) → t ≡ counts_after after_failed_read s name → Rose (counts_of s name).reads (counts_of t name).reads
 rose-reads s t name e =
@@ -95,3 +100,36 @@ rose-reads s t name e =
 pub rose-writes : (s t : FaultCounts) (name : List ℕ) → t ≡ counts_after after_failed_write s name → Rose (counts_of s name).writes (counts_of t name).writes
 rose-writes s t name e =
     rose _ _ (ap (λ (w : FaultCounts). (counts_of w name).writes) e ∙ ap (λ (c : Counts). c.writes) (raised_of after_failed_write s name))
+
+-- one name's counts may have changed, and those that are one with them: another's stayed, or stood where these stood and stand where these stand
+abbrev pub OneWith : (List ℕ → Counts) → (List ℕ → Counts) → List ℕ → List ℕ → Type 0
+OneWith before now name other = (now other ≡ before other) ⊎ ((before other ≡ before name) × (now other ≡ now name))
+
+pub only_one : (part : Counts → ℕ) (before now : List ℕ → Counts) (name : List ℕ) → ((other : List ℕ) → OneWith before now name other) → ChangesOnly (name ∷ []) (λ o. part (before o)) (λ o. part (now o))
+only_one part before now name h other = elim (h other) [ inl same ↦ inl (ap part same) | inr one ↦ inr (name, (0, omega arith, refl), ap part one.0, ap part one.1) ]
+
+-- a name that is the one of a fault, or another
+pub one_or_other : {P : Type 0} (name other : List ℕ) → (other ≡ name → P) → (other ≢ name → P) → P
+one_or_other {P = P} name other same apart =
+    elim (bytes_eq other name) as (λ b. bytes_eq other name ≡ b → P) [
+      | true ↦ λ e. same ((bytes_eq-Decides other name).0 e)
+      | false ↦ λ e. apart (λ h. differ (bytes_eq other name) ((bytes_eq-Decides other name).1 h) e)
+    ] refl
+
+-- names that share their counts before a fault of one of them share them after it
+shared_alike : (o p : Option Counts) (c d : Counts) → is_some p ≡ false → (unwrap_or o d ≡ unwrap_or o c) ⊎ ((unwrap_or o c ≡ unwrap_or p c) × (unwrap_or o d ≡ unwrap_or p d))
+shared_alike (Some x) p c d h = inl refl
+shared_alike None None c d h = inr (refl, refl)
+shared_alike None (Some x) c d h = cc
+
+counts_alone : (change : Counts → Counts) (s : FaultCounts) (name other : List ℕ) → OneWith (counts_of s) (counts_of (counts_after change s name)) name other
+counts_alone change s name other =
+    by_cases (λ (w : FaultCounts). OneWith (counts_of s) (counts_of w) name other) (is_some (item_of name s.named)) _ _
+    (λ _. one_or_other name other
+    (λ e. inr (ap (counts_of s) e, ap (counts_of (table (changed_at name change s.named) s.others)) e))
+    (λ ne. inl (ap (λ (o : Option Counts). unwrap_or o s.others) (item_of-changed_other name other change s.named ne))))
+    (λ missing. shared_alike (item_of other s.named) (item_of name s.named) s.others (change s.others) missing)
+
+pub counts-alone : (change : Counts → Counts) (s t : FaultCounts) (name : List ℕ) → t ≡ counts_after change s name → (other : List ℕ) → OneWith (counts_of s) (counts_of t) name other
+counts-alone change s t name e other =
+    subst (λ (w : FaultCounts). OneWith (counts_of s) (counts_of w) name other) (sym e) (counts_alone change s name other)

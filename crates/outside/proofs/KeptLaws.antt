@@ -1,14 +1,14 @@
 -- What each call makes of what is told by a shelf in memory, and of its counts.
-use Rattle.std.proofs.Common.{◌≡◌, ◌≢◌, ℕ, Bool, true, false, cond, List, [], ◌∷◌, ◌++◌, length, take, Option, Some, None, refl, sym, ap, ◌∙◌, is_some, option_map, unwrap_or, subst, Result, Ok, Err, is_ok, IfOk, OnOk, OnErr, MatchResult, IfSome}
+use Rattle.std.proofs.Common.{◌≡◌, ◌≢◌, ℕ, ◌⊎◌, inl, inr, Bool, true, false, cond, List, [], ◌∷◌, ◌++◌, length, take, Option, Some, None, refl, sym, ap, ◌∙◌, is_some, option_map, unwrap_or, subst, Result, Ok, Err, is_ok, IfOk, OnOk, OnErr, MatchResult, IfSome}
 use Rattle.std.specs.Str.{bytes_eq}
 use Rattle.std.proofs.lemmas.Slice.Eq.{bytes_eq-Decides}
 use Rattle.outside.specs.declared.counts.Counts.{Counts}
-use Rattle.outside.specs.Faults.{Rose}
+use Rattle.outside.specs.Faults.{Rose, Stay, ChangesOnly}
 use Rattle.outside.specs.Named.{item_of}
 use Rattle.outside.specs.Told.{Appends}
 use Rattle.outside.specs.Counts.{after_failed_read, after_failed_write}
 use Rattle.outside.specs.Kept.{Kept, KeptFile, told_of, counts_of_kept, read_faults_of, write_faults_of, call_passes, append_passes, with_counts, with_bytes, with_piece, file_put, after_put, after_change, after_fault, after_read, after_fresh, after_append}
-use Rattle.outside.proofs.CountLaws.{by_cases, NoLess, same_counts, read_raised, write_raised, rose}
+use Rattle.outside.proofs.CountLaws.{by_cases, NoLess, same_counts, read_raised, write_raised, rose, related_apart, differ, OneWith, only_one, one_or_other}
 use Rattle.outside.proofs.NamedLaws.{item_of-changed_same, item_of-changed_other, item_of-changed_kept, item_of-changed_related, item_of-append, item_of-append_new}
 
 -- what is told
@@ -84,20 +84,23 @@ appended-after_append (Err x) s t name piece go whole e =
     subst T (sym there) (same_still (told_of s name))
 
 -- counts: no count falls, and that of a call that failed rose
-others_related : (o : Option Counts) (c d : Counts) → NoLess c d → NoLess (unwrap_or o c) (unwrap_or o d)
-others_related None c d h = h
-others_related (Some x) c d h = same_counts x
+related_after_fault : (P : Counts → Counts → Type 0) → ((c : Counts) → P c c) → (change : Counts → Counts) → ((c : Counts) → P c (change c)) → (s : Kept) (name other : List ℕ) → P (counts_of_kept s other) (counts_of_kept (after_fault change s name) other)
+related_after_fault P same change step s name other =
+    by_cases (λ (t : Kept). P (counts_of_kept s other) (counts_of_kept t other)) (is_some (item_of name s.files)) _ _
+    (λ _. item_of-changed_related P (λ (f : KeptFile). f.counts) (with_counts change) same (λ f. step f.counts) name other s.files s.others)
+    (λ _. related_apart P same (option_map (λ (f : KeptFile). f.counts) (item_of other s.files)) s.others (change s.others) (step s.others))
 
 counts_after_fault : (change : Counts → Counts) → ((c : Counts) → NoLess c (change c)) → (s : Kept) (name other : List ℕ) → NoLess (counts_of_kept s other) (counts_of_kept (after_fault change s name) other)
-counts_after_fault change step s name other =
-    by_cases (λ (t : Kept). NoLess (counts_of_kept s other) (counts_of_kept t other)) (is_some (item_of name s.files)) _ _
-    (λ _. item_of-changed_related NoLess (λ (f : KeptFile). f.counts) (with_counts change) same_counts (λ f. step f.counts) name other s.files s.others)
-    (λ _. others_related (option_map (λ (f : KeptFile). f.counts) (item_of other s.files)) s.others (change s.others) (step s.others))
+counts_after_fault change step s name other = related_after_fault NoLess same_counts change step s name other
+
+counts_kept : (change : KeptFile → KeptFile) → ((f : KeptFile) → (change f).counts ≡ f.counts) → (s : Kept) (name other : List ℕ) → counts_of_kept (after_change change s name) other ≡ counts_of_kept s other
+counts_kept change keeps s name other =
+    ap (λ (o : Option Counts). unwrap_or o s.others) (item_of-changed_kept (λ (f : KeptFile). f.counts) change keeps name other s.files)
 
 counts_after_change : (change : KeptFile → KeptFile) → ((f : KeptFile) → (change f).counts ≡ f.counts) → (s : Kept) (name other : List ℕ) → NoLess (counts_of_kept s other) (counts_of_kept (after_change change s name) other)
 counts_after_change change keeps s name other =
-    let T : Option Counts → Type 0 = λ o. NoLess (counts_of_kept s other) (unwrap_or o s.others) in
-    subst T (sym (item_of-changed_kept (λ (f : KeptFile). f.counts) change keeps name other s.files)) (same_counts (counts_of_kept s other))
+    let T : Counts → Type 0 = NoLess (counts_of_kept s other) in
+    subst T (sym (counts_kept change keeps s name other)) (same_counts (counts_of_kept s other))
 
 seen_after : (s t u : Kept) (other : List ℕ) → t ≡ u → NoLess (counts_of_kept s other) (counts_of_kept u other) → NoLess (counts_of_kept s other) (counts_of_kept t other)
 seen_after s t u other e h = let T : Kept → Type 0 = λ w. NoLess (counts_of_kept s other) (counts_of_kept w other) in subst T (sym e) h
@@ -156,9 +159,6 @@ pub others-after_put : (s t : Kept) (name bytes : List ℕ) → t ≡ after_put 
 others-after_put s t name bytes e other ne =
     ap (λ (w : Kept). told_of w other) e ∙ ap (option_map (λ (f : KeptFile). f.bytes)) (item_of-append other name (file_put s bytes) s.files ne)
 
-differ : (b : Bool) → b ≡ true → b ≡ false → ⊥
-differ b p q = cc
-
 counts_after_put : (s : Kept) (name bytes other : List ℕ) → item_of name s.files ≡ None → counts_of_kept (after_put s name bytes) other ≡ counts_of_kept s other
 counts_after_put s name bytes other new =
     elim (bytes_eq name other) as (λ b. bytes_eq name other ≡ b → counts_of_kept (after_put s name bytes) other ≡ counts_of_kept s other) [
@@ -175,3 +175,62 @@ counts_after_put s name bytes other new =
 pub counts-after_put : (s t : Kept) (name bytes : List ℕ) → told_of s name ≡ None → t ≡ after_put s name bytes → (other : List ℕ) → counts_of_kept t other ≡ counts_of_kept s other
 counts-after_put s t name bytes new e other =
     ap (λ (w : Kept). counts_of_kept w other) e ∙ counts_after_put s name bytes other (none_told (item_of name s.files) new)
+
+-- counts of the other kind stay, those of this kind where the call went through
+same_part_after_fault : (part : Counts → ℕ) (change : Counts → Counts) → ((c : Counts) → part (change c) ≡ part c) → (s : Kept) (name other : List ℕ) → part (counts_of_kept (after_fault change s name) other) ≡ part (counts_of_kept s other)
+same_part_after_fault part change keeps s name other = related_after_fault (λ c d. part d ≡ part c) (λ c. refl) change keeps s name other
+
+pub writes-after_read : (s t : Kept) (name : List ℕ) → t ≡ after_read s name → Stay (write_faults_of s) (write_faults_of t)
+writes-after_read s t name e other =
+    ap (λ (w : Kept). write_faults_of w other) e ∙ by_cases (λ (w : Kept). write_faults_of w other ≡ write_faults_of s other) (call_passes s name) _ _ (λ _. refl) (λ _. same_part_after_fault (λ c. c.writes) after_failed_read (λ c. refl) s name other)
+
+pub reads-after_fresh : (s t : Kept) (name : List ℕ) → t ≡ after_fresh s name → Stay (read_faults_of s) (read_faults_of t)
+reads-after_fresh s t name e other =
+    ap (λ (w : Kept). read_faults_of w other) e ∙ by_cases (λ (w : Kept). read_faults_of w other ≡ read_faults_of s other) (call_passes s name) _ _ (λ _. ap (λ (c : Counts). c.reads) (counts_kept (with_bytes []) (λ f. refl) s name other)) (λ _. same_part_after_fault (λ c. c.reads) after_failed_write (λ c. refl) s name other)
+
+pub reads-after_append : (s t : Kept) (name piece : List ℕ) → t ≡ after_append s name piece → Stay (read_faults_of s) (read_faults_of t)
+reads-after_append s t name piece e other =
+    ap (λ (w : Kept). read_faults_of w other) e ∙ by_cases (λ (w : Kept). read_faults_of w other ≡ read_faults_of s other) (append_passes s name piece) _ _ (λ _. ap (λ (c : Counts). c.reads) (counts_kept (with_piece piece) (λ f. refl) s name other)) (λ _. same_part_after_fault (λ c. c.reads) after_failed_write (λ c. refl) s name other)
+
+pub stay-after_read : {T E : Type 0} (r : Result T E) (s t : Kept) (name : List ℕ) → is_ok r ≡ call_passes s name → t ≡ after_read s name → OnOk r (Stay (read_faults_of s) (read_faults_of t))
+stay-after_read (Err x) s t name go e = tt
+stay-after_read (Ok x) s t name go e = λ other. ap (λ (w : Kept). read_faults_of w other) (e ∙ cond_true (call_passes s name) _ _ (sym go))
+
+pub stay-after_fresh : {T E : Type 0} (r : Result T E) (s t : Kept) (name : List ℕ) → is_ok r ≡ call_passes s name → t ≡ after_fresh s name → OnOk r (Stay (write_faults_of s) (write_faults_of t))
+stay-after_fresh (Err x) s t name go e = tt
+stay-after_fresh (Ok x) s t name go e =
+    λ other. ap (λ (w : Kept). write_faults_of w other) (e ∙ cond_true (call_passes s name) _ _ (sym go)) ∙ ap (λ (c : Counts). c.writes) (counts_kept (with_bytes []) (λ f. refl) s name other)
+
+pub stay-after_append : {T E : Type 0} (r : Result T E) (s t : Kept) (name piece : List ℕ) → is_ok r ≡ append_passes s name piece → t ≡ after_append s name piece → OnOk r (Stay (write_faults_of s) (write_faults_of t))
+stay-after_append (Err x) s t name piece go e = tt
+stay-after_append (Ok x) s t name piece go e =
+    λ other. ap (λ (w : Kept). write_faults_of w other) (e ∙ cond_true (append_passes s name piece) _ _ (sym go)) ∙ ap (λ (c : Counts). c.writes) (counts_kept (with_piece piece) (λ f. refl) s name other)
+
+-- at most the counts of the call's name change, and those that are one with them
+shared_alike : (o p : Option KeptFile) (c d : Counts) → is_some p ≡ false → (unwrap_or (option_map (λ (f : KeptFile). f.counts) o) d ≡ unwrap_or (option_map (λ (f : KeptFile). f.counts) o) c) ⊎ ((unwrap_or (option_map (λ (f : KeptFile). f.counts) o) c ≡ unwrap_or (option_map (λ (f : KeptFile). f.counts) p) c) × (unwrap_or (option_map (λ (f : KeptFile). f.counts) o) d ≡ unwrap_or (option_map (λ (f : KeptFile). f.counts) p) d))
+shared_alike (Some f) p c d h = inl refl
+shared_alike None None c d h = inr (refl, refl)
+shared_alike None (Some f) c d h = cc
+
+alone_after_fault : (change : Counts → Counts) (s : Kept) (name other : List ℕ) → OneWith (counts_of_kept s) (counts_of_kept (after_fault change s name)) name other
+alone_after_fault change s name other =
+    by_cases (λ (w : Kept). OneWith (counts_of_kept s) (counts_of_kept w) name other) (is_some (item_of name s.files)) _ _
+    (λ _. one_or_other name other
+    (λ e. inr (ap (counts_of_kept s) e, ap (counts_of_kept (after_change (with_counts change) s name)) e))
+    (λ ne. inl (ap (λ (o : Option KeptFile). unwrap_or (option_map (λ (f : KeptFile). f.counts) o) s.others) (item_of-changed_other name other (with_counts change) s.files ne))))
+    (λ missing. shared_alike (item_of other s.files) (item_of name s.files) s.others (change s.others) missing)
+
+alone_after : (s t u : Kept) (name other : List ℕ) → t ≡ u → OneWith (counts_of_kept s) (counts_of_kept u) name other → OneWith (counts_of_kept s) (counts_of_kept t) name other
+alone_after s t u name other e h = let T : Kept → Type 0 = λ w. OneWith (counts_of_kept s) (counts_of_kept w) name other in subst T (sym e) h
+
+pub alone-after_read : (s t : Kept) (name : List ℕ) → t ≡ after_read s name → ChangesOnly (name ∷ []) (read_faults_of s) (read_faults_of t)
+alone-after_read s t name e =
+    only_one (λ c. c.reads) (counts_of_kept s) (counts_of_kept t) name (λ other. alone_after s t (after_read s name) name other e (by_cases (λ (w : Kept). OneWith (counts_of_kept s) (counts_of_kept w) name other) (call_passes s name) _ _ (λ _. inl refl) (λ _. alone_after_fault after_failed_read s name other)))
+
+pub alone-after_fresh : (s t : Kept) (name : List ℕ) → t ≡ after_fresh s name → ChangesOnly (name ∷ []) (write_faults_of s) (write_faults_of t)
+alone-after_fresh s t name e =
+    only_one (λ c. c.writes) (counts_of_kept s) (counts_of_kept t) name (λ other. alone_after s t (after_fresh s name) name other e (by_cases (λ (w : Kept). OneWith (counts_of_kept s) (counts_of_kept w) name other) (call_passes s name) _ _ (λ _. inl (counts_kept (with_bytes []) (λ f. refl) s name other)) (λ _. alone_after_fault after_failed_write s name other)))
+
+pub alone-after_append : (s t : Kept) (name piece : List ℕ) → t ≡ after_append s name piece → ChangesOnly (name ∷ []) (write_faults_of s) (write_faults_of t)
+alone-after_append s t name piece e =
+    only_one (λ c. c.writes) (counts_of_kept s) (counts_of_kept t) name (λ other. alone_after s t (after_append s name piece) name other e (by_cases (λ (w : Kept). OneWith (counts_of_kept s) (counts_of_kept w) name other) (append_passes s name piece) _ _ (λ _. inl (counts_kept (with_piece piece) (λ f. refl) s name other)) (λ _. alone_after_fault after_failed_write s name other)))

@@ -1,7 +1,7 @@
 // Real files.
-ghost use Rattle.std.specs.Prelude.{◌≡◌, ◌≢◌, ℕ, ◌<◌, ◌≤◌, List, [], length, map, take, string_bytes, IfSome, IfOk};
+ghost use Rattle.std.specs.Prelude.{◌≡◌, ◌≢◌, ℕ, ◌<◌, ◌≤◌, List, [], ◌∷◌, length, map, take, string_bytes, IfSome, IfOk};
 ghost use Rattle.std.specs.Prelude.{OnOk, OnErr, MatchResult};
-ghost use Rattle.outside.specs.Faults.{Rose, NeverFall};
+ghost use Rattle.outside.specs.Faults.{Rose, NeverFall, Stay, ChangesOnly};
 ghost use Rattle.outside.specs.Told.{Finds, Appends, untold};
 ghost use Rattle.outside.specs.Counts.{no_faults, counts_after, after_failed_read, after_failed_write, reads_of};
 ghost use Rattle.outside.specs.Counts.{writes_of};
@@ -39,6 +39,12 @@ fn read_from<R: Files>(rt: &R, name: &str, place: u64, into: &mut [u8]) -> io::R
     let mut file = fs::open(rt, name)?;
     file.seek(SeekFrom::Start(place))?;
     file.read(into)
+}
+
+// Leaves an empty file.
+fn make_empty<R: Files>(rt: &R, name: &str) -> io::Result<()> {
+    let _file = fs::create(rt, name)?;
+    Ok(())
 }
 
 // Writes once, at the end.
@@ -79,7 +85,9 @@ impl<R: Files> Shelf for DiskShelf<'_, R> {
         ensures failed { OnErr result (Rose (reads_of self.old name.now) (reads_of self.new name.now)) }
         ensures told_stays { (other : List ℕ) → untold ≡ untold }
         ensures reads_never_fall { NeverFall (reads_of self.old) (reads_of self.new) }
-        ensures writes_never_fall { NeverFall (writes_of self.old) (writes_of self.new) }
+        ensures reads_stay { OnOk result (Stay (reads_of self.old) (reads_of self.new)) }
+        ensures reads_alone { ChangesOnly (name.now ∷ []) (reads_of self.old) (reads_of self.new) }
+        ensures writes_stay { Stay (writes_of self.old) (writes_of self.new) }
 
         // A success leaves all counts; a failure raises this one alone.
         ensures ok { OnOk result (self.new ≡ self.old) }
@@ -98,15 +106,17 @@ impl<R: Files> Shelf for DiskShelf<'_, R> {
         ensures empty { OnOk result (IfSome untold (λ bytes. bytes ≡ [])) }
         ensures failed { OnErr result (Rose (writes_of self.old name.now) (writes_of self.new name.now)) }
         ensures told_stays { (other : List ℕ) → other ≢ name.now → untold ≡ untold }
-        ensures reads_never_fall { NeverFall (reads_of self.old) (reads_of self.new) }
+        ensures reads_stay { Stay (reads_of self.old) (reads_of self.new) }
         ensures writes_never_fall { NeverFall (writes_of self.old) (writes_of self.new) }
+        ensures writes_stay { OnOk result (Stay (writes_of self.old) (writes_of self.new)) }
+        ensures writes_alone { ChangesOnly (name.now ∷ []) (writes_of self.old) (writes_of self.new) }
 
         // A success leaves all counts; a failure raises this one alone.
         ensures ok { OnOk result (self.new ≡ self.old) }
         ensures err { OnErr result (self.new ≡ counts_after after_failed_write self.old name.now) }
     {
-        match fs::create(self.rt, name) {
-            Ok(_) => Ok(()),
+        match make_empty(self.rt, name) {
+            Ok(()) => Ok(()),
             Err(_) => {
                 self.counts.raise_writes(name);
                 Err(Failed)
@@ -123,8 +133,10 @@ impl<R: Files> Shelf for DiskShelf<'_, R> {
             (λ _. Appends untold untold []) }
         ensures failed { OnErr result (Rose (writes_of self.old name.now) (writes_of self.new name.now)) }
         ensures told_stays { (other : List ℕ) → other ≢ name.now → untold ≡ untold }
-        ensures reads_never_fall { NeverFall (reads_of self.old) (reads_of self.new) }
+        ensures reads_stay { Stay (reads_of self.old) (reads_of self.new) }
         ensures writes_never_fall { NeverFall (writes_of self.old) (writes_of self.new) }
+        ensures writes_stay { OnOk result (Stay (writes_of self.old) (writes_of self.new)) }
+        ensures writes_alone { ChangesOnly (name.now ∷ []) (writes_of self.old) (writes_of self.new) }
 
         // A success leaves all counts; a failure raises this one alone.
         ensures ok { OnOk result (self.new ≡ self.old) }

@@ -1,9 +1,9 @@
 // Counts of faults by name.
-ghost use Rattle.std.specs.Prelude.{◌≡◌, ℕ, List, [], position, IfOk, OnOk, OnErr};
+ghost use Rattle.std.specs.Prelude.{◌≡◌, ℕ, List, [], ◌∷◌, position, IfOk, OnOk, OnErr};
 ghost use Rattle.std.specs.Str.{bytes_eq};
 ghost use Rattle.outside.specs.Counts.{after_failed_read, after_failed_write, counts_after, counts_with, reads_of};
 ghost use Rattle.outside.specs.Counts.{writes_of};
-ghost use Rattle.outside.specs.Faults.{Rose, NeverFall};
+ghost use Rattle.outside.specs.Faults.{Rose, NeverFall, Stay, ChangesOnly};
 
 use crate::counts::Counts;
 use crate::faults::Memory;
@@ -98,7 +98,8 @@ impl FaultCounts {
         ensures after { self.new ≡ counts_after after_failed_read self.old name.now }
         ensures rose { Rose (reads_of self.old name.now) (reads_of self.new name.now) }
         ensures reads_never_fall { NeverFall (reads_of self.old) (reads_of self.new) }
-        ensures writes_never_fall { NeverFall (writes_of self.old) (writes_of self.new) }
+        ensures reads_alone { ChangesOnly (name.now ∷ []) (reads_of self.old) (reads_of self.new) }
+        ensures writes_stay { Stay (writes_of self.old) (writes_of self.new) }
     {
         match self.place_of(name) {
             Some(place) => self.rows[place].raise_reads(),
@@ -109,8 +110,9 @@ impl FaultCounts {
     pub fn raise_writes(&mut self, name: &str)
         ensures after { self.new ≡ counts_after after_failed_write self.old name.now }
         ensures rose { Rose (writes_of self.old name.now) (writes_of self.new name.now) }
-        ensures reads_never_fall { NeverFall (reads_of self.old) (reads_of self.new) }
+        ensures reads_stay { Stay (reads_of self.old) (reads_of self.new) }
         ensures writes_never_fall { NeverFall (writes_of self.old) (writes_of self.new) }
+        ensures writes_alone { ChangesOnly (name.now ∷ []) (writes_of self.old) (writes_of self.new) }
     {
         match self.place_of(name) {
             Some(place) => self.rows[place].raise_writes(),

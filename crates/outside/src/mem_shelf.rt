@@ -1,8 +1,8 @@
 // A shelf in memory, for tests.
-ghost use Rattle.std.specs.Prelude.{◌≡◌, ℕ, ◌<◌, ◌≤◌, List, [], length, take, position, is_ok, None, Some, IfSome};
+ghost use Rattle.std.specs.Prelude.{◌≡◌, ℕ, ◌<◌, ◌≤◌, List, [], ◌∷◌, length, take, position, is_ok, None, Some, IfSome};
 ghost use Rattle.std.specs.Prelude.{IfOk, OnOk, OnErr, MatchResult, option_map};
 ghost use Rattle.std.specs.Str.{bytes_eq};
-ghost use Rattle.outside.specs.Faults.{Rose, NeverFall};
+ghost use Rattle.outside.specs.Faults.{Rose, NeverFall, Stay, ChangesOnly};
 ghost use Rattle.outside.specs.Told.{Finds, Appends, OthersStay};
 ghost use Rattle.outside.specs.Kept.{new_shelf, told_of, read_faults_of, write_faults_of, call_passes, append_passes};
 ghost use Rattle.outside.specs.Kept.{after_put, after_read, after_fresh, after_append};
@@ -164,7 +164,9 @@ impl Shelf for MemShelf {
 
         ensures told_stays { (other : List ℕ) → told_of self.new other ≡ told_of self.old other }
         ensures reads_never_fall { NeverFall (read_faults_of self.old) (read_faults_of self.new) }
-        ensures writes_never_fall { NeverFall (write_faults_of self.old) (write_faults_of self.new) }
+        ensures reads_stay { OnOk result (Stay (read_faults_of self.old) (read_faults_of self.new)) }
+        ensures reads_alone { ChangesOnly (name.now ∷ []) (read_faults_of self.old) (read_faults_of self.new) }
+        ensures writes_stay { Stay (write_faults_of self.old) (write_faults_of self.new) }
 
         // A read fails for one of two causes.
         ensures answers { is_ok result ≡ call_passes self.old name.now }
@@ -178,8 +180,10 @@ impl Shelf for MemShelf {
         ensures failed { OnErr result (Rose (write_faults_of self.old name.now) (write_faults_of self.new name.now)) }
 
         ensures told_stays { OthersStay name.now (told_of self.old) (told_of self.new) }
-        ensures reads_never_fall { NeverFall (read_faults_of self.old) (read_faults_of self.new) }
+        ensures reads_stay { Stay (read_faults_of self.old) (read_faults_of self.new) }
         ensures writes_never_fall { NeverFall (write_faults_of self.old) (write_faults_of self.new) }
+        ensures writes_stay { OnOk result (Stay (write_faults_of self.old) (write_faults_of self.new)) }
+        ensures writes_alone { ChangesOnly (name.now ∷ []) (write_faults_of self.old) (write_faults_of self.new) }
 
         // It fails for one of two causes.
         ensures answers { is_ok result ≡ call_passes self.old name.now }
@@ -198,8 +202,10 @@ impl Shelf for MemShelf {
         ensures failed { OnErr result (Rose (write_faults_of self.old name.now) (write_faults_of self.new name.now)) }
 
         ensures told_stays { OthersStay name.now (told_of self.old) (told_of self.new) }
-        ensures reads_never_fall { NeverFall (read_faults_of self.old) (read_faults_of self.new) }
+        ensures reads_stay { Stay (read_faults_of self.old) (read_faults_of self.new) }
         ensures writes_never_fall { NeverFall (write_faults_of self.old) (write_faults_of self.new) }
+        ensures writes_stay { OnOk result (Stay (write_faults_of self.old) (write_faults_of self.new)) }
+        ensures writes_alone { ChangesOnly (name.now ∷ []) (write_faults_of self.old) (write_faults_of self.new) }
 
         // An append takes its whole piece, or fails for one of three causes.
         ensures whole { IfOk result (λ n. n ≡ length piece.now) }

@@ -1,5 +1,5 @@
 // A sink in memory, for tests.
-ghost use Rattle.std.specs.Prelude.{◌≡◌, ◌<◌, ◌≤◌, [], length, take, is_ok, Some, IfOk, OnErr, MatchResult};
+ghost use Rattle.std.specs.Prelude.{◌≡◌, ◌<◌, ◌≤◌, [], length, take, is_ok, Some, IfOk, OnOk, OnErr, MatchResult};
 ghost use Rattle.outside.specs.Faults.{Rose};
 ghost use Rattle.outside.specs.Told.{Appends};
 ghost use Rattle.outside.specs.Printed.{new_sink, write_passes, after_write};
@@ -69,6 +69,7 @@ impl Sink for MemSink {
             (λ _. Appends (Some self.old.bytes) (Some self.new.bytes) []) }
         ensures failed { OnErr result (Rose self.old.faults self.new.faults) }
         ensures never_falls { self.old.faults ≤ self.new.faults }
+        ensures stays { OnOk result (self.new.faults ≡ self.old.faults) }
 
         // A write takes its whole piece, or fails for one of two causes.
         ensures answers { is_ok result ≡ write_passes self.old piece.now }

@@ -1,7 +1,7 @@
 // Shelves: files by name.
-ghost use Rattle.std.specs.Prelude.{◌≡◌, ◌≢◌, ℕ, ◌<◌, ◌≤◌, Option, List, [], length, take, IfSome, IfOk, OnOk, OnErr};
+ghost use Rattle.std.specs.Prelude.{◌≡◌, ◌≢◌, ℕ, ◌<◌, ◌≤◌, Option, List, [], ◌∷◌, length, take, IfSome, IfOk, OnOk, OnErr};
 ghost use Rattle.std.specs.Prelude.{MatchResult};
-ghost use Rattle.outside.specs.Faults.{Rose};
+ghost use Rattle.outside.specs.Faults.{Rose, Stay, ChangesOnly};
 ghost use Rattle.outside.specs.Told.{Finds, Appends};
 
 use crate::faults::Failed;
@@ -31,7 +31,9 @@ pub trait Shelf {
 
         ensures told_stays { (other : List ℕ) → told self.new other ≡ told self.old other }
         ensures reads_never_fall { (other : List ℕ) → read_faults self.old other ≤ read_faults self.new other }
-        ensures writes_never_fall { (other : List ℕ) → write_faults self.old other ≤ write_faults self.new other };
+        ensures reads_stay { OnOk result (Stay (read_faults self.old) (read_faults self.new)) }
+        ensures reads_alone { ChangesOnly (name.now ∷ []) (read_faults self.old) (read_faults self.new) }
+        ensures writes_stay { Stay (write_faults self.old) (write_faults self.new) };
 
     /// Leaves an empty file under the name, whatever was there.
     fn fresh(&mut self, name: &str) -> Result<(), Failed>
@@ -39,8 +41,10 @@ pub trait Shelf {
         ensures failed { OnErr result (Rose (write_faults self.old name.now) (write_faults self.new name.now)) }
 
         ensures told_stays { (other : List ℕ) → other ≢ name.now → told self.new other ≡ told self.old other }
-        ensures reads_never_fall { (other : List ℕ) → read_faults self.old other ≤ read_faults self.new other }
-        ensures writes_never_fall { (other : List ℕ) → write_faults self.old other ≤ write_faults self.new other };
+        ensures reads_stay { Stay (read_faults self.old) (read_faults self.new) }
+        ensures writes_never_fall { (other : List ℕ) → write_faults self.old other ≤ write_faults self.new other }
+        ensures writes_stay { OnOk result (Stay (write_faults self.old) (write_faults self.new)) }
+        ensures writes_alone { ChangesOnly (name.now ∷ []) (write_faults self.old) (write_faults self.new) };
 
     /// Adds the first bytes of a piece at the end of the file, and answers how many, at least one.
     /// A failed call has added nothing.
@@ -54,6 +58,8 @@ pub trait Shelf {
         ensures failed { OnErr result (Rose (write_faults self.old name.now) (write_faults self.new name.now)) }
 
         ensures told_stays { (other : List ℕ) → other ≢ name.now → told self.new other ≡ told self.old other }
-        ensures reads_never_fall { (other : List ℕ) → read_faults self.old other ≤ read_faults self.new other }
-        ensures writes_never_fall { (other : List ℕ) → write_faults self.old other ≤ write_faults self.new other };
+        ensures reads_stay { Stay (read_faults self.old) (read_faults self.new) }
+        ensures writes_never_fall { (other : List ℕ) → write_faults self.old other ≤ write_faults self.new other }
+        ensures writes_stay { OnOk result (Stay (write_faults self.old) (write_faults self.new)) }
+        ensures writes_alone { ChangesOnly (name.now ∷ []) (write_faults self.old) (write_faults self.new) };
 }

@@ -1,5 +1,5 @@
 // Sinks: where a text is printed.
-ghost use Rattle.std.specs.Prelude.{ℕ, ◌<◌, ◌≤◌, Option, List, [], length, take, IfOk, OnErr, MatchResult};
+ghost use Rattle.std.specs.Prelude.{◌≡◌, ℕ, ◌<◌, ◌≤◌, Option, List, [], length, take, IfOk, OnOk, OnErr, MatchResult};
 ghost use Rattle.outside.specs.Faults.{Rose};
 ghost use Rattle.outside.specs.Told.{Appends};
 
@@ -24,5 +24,6 @@ pub trait Sink {
             (λ _. Appends (told self.old) (told self.new) []) }
         ensures failed { OnErr result (Rose (faults self.old) (faults self.new)) }
 
-        ensures never_falls { faults self.old ≤ faults self.new };
+        ensures never_falls { faults self.old ≤ faults self.new }
+        ensures stays { OnOk result (faults self.new ≡ faults self.old) };
 }

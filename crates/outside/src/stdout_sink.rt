@@ -47,9 +47,9 @@ impl<R: Print> Sink for StdoutSink<'_, R> {
             (λ _. Appends untold untold []) }
         ensures failed { OnErr result (Rose self.old self.new) }
         ensures never_falls { self.old ≤ self.new }
+        ensures stays { OnOk result (self.new ≡ self.old) }
 
-        // A success leaves the count; a failure raises it.
-        ensures ok { OnOk result (self.new ≡ self.old) }
+        // A failure raises the count.
         ensures err { OnErr result (self.new ≡ one_more self.old) }
     {
         match self.rt.write_some(piece) {

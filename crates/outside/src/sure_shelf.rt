@@ -1,8 +1,8 @@
 // A shelf whose calls never fail.
-ghost use Rattle.std.specs.Prelude.{◌≡◌, ℕ, ◌<◌, ◌≤◌, List, [], length, take, position, unwrap_or, false, None, Some};
+ghost use Rattle.std.specs.Prelude.{◌≡◌, ℕ, ◌<◌, ◌≤◌, List, [], ◌∷◌, length, take, position, unwrap_or, false, None, Some};
 ghost use Rattle.std.specs.Prelude.{Ok, IfSome, IfOk, OnOk, OnErr, MatchResult};
 ghost use Rattle.std.specs.Str.{bytes_eq};
-ghost use Rattle.outside.specs.Faults.{Rose};
+ghost use Rattle.outside.specs.Faults.{Rose, Stay, ChangesOnly};
 ghost use Rattle.outside.specs.Told.{Finds, Appends, OthersStay};
 ghost use Rattle.outside.specs.Sure.{was_put, sure_put, sure_told, written_to};
 
@@ -146,7 +146,9 @@ impl Shelf for SureShelf {
         ensures failed { OnErr result (Rose 0 0) }
         ensures told_stays { (other : List ℕ) → sure_told self.new other ≡ sure_told self.old other }
         ensures reads_never_fall { (other : List ℕ) → 0 ≤ 0 }
-        ensures writes_never_fall { (other : List ℕ) → 0 ≤ 0 }
+        ensures reads_stay { OnOk result (Stay (λ _. 0) (λ _. 0)) }
+        ensures reads_alone { ChangesOnly (name.now ∷ []) (λ _. 0) (λ _. 0) }
+        ensures writes_stay { Stay (λ _. 0) (λ _. 0) }
 
         // A name that isn't told reads as empty, and a read changes nothing.
         ensures empty { sure_told self.old name.now ≡ None → result ≡ Ok 0 }
@@ -159,8 +161,10 @@ impl Shelf for SureShelf {
         ensures empty { OnOk result (IfSome (sure_told self.new name.now) (λ bytes. bytes ≡ [])) }
         ensures failed { OnErr result (Rose 0 0) }
         ensures told_stays { OthersStay name.now (sure_told self.old) (sure_told self.new) }
-        ensures reads_never_fall { (other : List ℕ) → 0 ≤ 0 }
+        ensures reads_stay { Stay (λ _. 0) (λ _. 0) }
         ensures writes_never_fall { (other : List ℕ) → 0 ≤ 0 }
+        ensures writes_stay { OnOk result (Stay (λ _. 0) (λ _. 0)) }
+        ensures writes_alone { ChangesOnly (name.now ∷ []) (λ _. 0) (λ _. 0) }
 
         // The name is told no longer.
         ensures after { self.new ≡ written_to self.old name.now }
@@ -178,8 +182,10 @@ impl Shelf for SureShelf {
             (λ _. Appends (sure_told self.old name.now) (sure_told self.new name.now) []) }
         ensures failed { OnErr result (Rose 0 0) }
         ensures told_stays { OthersStay name.now (sure_told self.old) (sure_told self.new) }
-        ensures reads_never_fall { (other : List ℕ) → 0 ≤ 0 }
+        ensures reads_stay { Stay (λ _. 0) (λ _. 0) }
         ensures writes_never_fall { (other : List ℕ) → 0 ≤ 0 }
+        ensures writes_stay { OnOk result (Stay (λ _. 0) (λ _. 0)) }
+        ensures writes_alone { ChangesOnly (name.now ∷ []) (λ _. 0) (λ _. 0) }
 
         // The whole piece is taken and not kept, and the name is told no longer.
         ensures whole { IfOk result (λ n. n ≡ length piece.now) }

@@ -1,5 +1,5 @@
 // A sink whose writes never fail.
-ghost use Rattle.std.specs.Prelude.{◌≡◌, ◌<◌, ◌≤◌, [], length, take, IfOk, OnErr, MatchResult};
+ghost use Rattle.std.specs.Prelude.{◌≡◌, ℕ, ◌<◌, ◌≤◌, [], length, take, IfOk, OnOk, OnErr, MatchResult};
 ghost use Rattle.outside.specs.Faults.{Rose};
 ghost use Rattle.outside.specs.Told.{Appends, untold};
 
@@ -25,6 +25,7 @@ impl Sink for SureSink {
             (λ _. Appends untold untold []) }
         ensures failed { OnErr result (Rose 0 0) }
         ensures never_falls { 0 ≤ 0 }
+        ensures stays { OnOk result (◌≡◌ {A = ℕ} 0 0) }
 
         // The whole piece is taken.
         ensures whole { IfOk result (λ n. n ≡ length piece.now) }

@@ -142,7 +142,7 @@ module _ (known : KnownParts) (cube zeros : CubeParts) (ready : IsPrepared known
   base_near i row at =
       let within = slice_get_within known.problem.base i row at in
       let P : RowParts → Type 0 = IsRowBelow (variables known) in
-      subst P (get_or_from_slice_get known.problem.base i row row at) (ready.problem.variables i row within)
+      subst P (get_or_from_slice_get known.problem.base i row row at) (ready.problem.decide.variables i row within)
 
   wider : (row : RowParts) → IsRowBelow (variables known) row → IsRowBelow MEMBERS row
   wider row near = All-weaker (λ (t : Term). t.var.0 < variables known) (λ t. t.var.0 < MEMBERS) (λ t less. omega (arith, less, ready.few)) row.terms near

@@ -1,5 +1,5 @@
 // The ascent, row after row, which notes on its way the rows that a second candidate looks at.
-ghost use Rattle.std.specs.Prelude.{◌≡◌, ℕ, ◌≤◌, ◌<◌, ◌^◌, length, slice_get, slice_index, vec_capacity, fold};
+ghost use Rattle.std.specs.Prelude.{◌≡◌, true, false, ℕ, ◌≤◌, ◌<◌, ◌^◌, length, slice_get, slice_index, vec_capacity, fold};
 ghost use Rattle.std.specs.Prelude.{IfOk, IfSome};
 ghost use Rattle.rows.specs.Row.{row_of_cut};
 ghost use Rattle.rows.specs.Known.{parts_of, known_cuts, IsKnown};
@@ -26,6 +26,16 @@ pub(crate) const PAIRS: usize = 64;
 pub(crate) struct Rising {
     pub(crate) pairs: Vec<Pair>,
     pub(crate) residue: [u128; MEMBERS],
+}
+
+impl Rising {
+    // Whether there is no room for another pair.
+    pub(crate) fn is_full(&self) -> bool
+        ensures full { result ≡ true → 64 ≤ length self.now.pairs.items }
+        ensures room { result ≡ false → length self.now.pairs.items < 64 }
+    {
+        self.pairs.len() >= PAIRS
+    }
 }
 
 // What each member costs.
@@ -81,7 +91,7 @@ fn look_at_base(
     }
     let row = &known.problem.base()[i as usize];
     unmet.note(name, helpers_of_row(row, cube));
-    if rising.pairs.len() >= PAIRS {
+    if rising.is_full() {
         return;
     }
     let times = times_of_row(row, cube, &rising.residue);
@@ -118,7 +128,7 @@ fn look_at_cut(
     }
     let cut = known.cuts.get(j);
     unmet.note(name, free_of_cut(&cut, cube).len() as usize);
-    if rising.pairs.len() >= PAIRS {
+    if rising.is_full() {
         return;
     }
     let times = times_of_cut(&cut, cube, &rising.residue);

@@ -39,6 +39,14 @@ impl Model for Ascent {
 }
 
 impl Ascent {
+    /// The cost row once, and each row that was added with its multiplier.
+    pub fn pairs(&self) -> &[Pair]
+        ensures pairs { result.now ≡ self.now.pairs }
+        ensures reason { IsReason self.now.pairs }
+    {
+        self.pairs.as_slice()
+    }
+
     /// What the ascent leaves of each variable's cost, in cost units.
     pub fn residues(&self) -> &Residues
         ensures { result.now ≡ self.now.residues }

@@ -9,7 +9,7 @@ use crate::residues::Residues;
 use crate::spending::base_row;
 use arch_model::limits::MEMBERS;
 use arch_model::{Library, MemberSet, VarId};
-use rows::{Cube, Known, Row, RowRef, has, member_cost, refuted, variable_count};
+use rows::{Cube, Known, Row, RowRef, has, member_cost, unmet, variable_count};
 
 // What speaks for branching on a variable, the strongest first.
 #[derive(Clone, Copy)]
@@ -60,7 +60,7 @@ fn put_helpers(set: &mut MemberSet, row: &Row)
 
 // Whether a row is known, and not met by every vector of a cube.
 fn is_wanting(known: &Known, name: RowRef, cube: &Cube) -> bool {
-    has(known, name) && refuted(known, name, cube)
+    has(known, name) && unmet(known, name, cube)
 }
 
 // The variables with a positive coefficient in some base row or known cut that isn't met by every

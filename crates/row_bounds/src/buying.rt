@@ -107,7 +107,7 @@ fn add_base(known: &Known, i: u32, times: u64, rising: &mut Rising)
     ensures rising { IsRising (parts_of known.now) rising.new.pairs.items rising.new.residue }
     ensures room { vec_capacity rising.new.pairs ≡ 64 }
 {
-    if times == 0 || rising.pairs.len() >= PAIRS || i as usize >= known.problem.base().len() {
+    if times == 0 || rising.is_full() || i as usize >= known.problem.base().len() {
         return;
     }
     spend_row(&mut rising.residue, base_row(known.problem, i), times);
@@ -127,7 +127,7 @@ fn add_cut(known: &Known, j: u32, times: u64, rising: &mut Rising)
     ensures rising { IsRising (parts_of known.now) rising.new.pairs.items rising.new.residue }
     ensures room { vec_capacity rising.new.pairs ≡ 64 }
 {
-    if times == 0 || rising.pairs.len() >= PAIRS {
+    if times == 0 || rising.is_full() {
         return;
     }
     spend_cut(&mut rising.residue, &known.cuts.get(j), times);

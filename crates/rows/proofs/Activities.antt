@@ -7,7 +7,10 @@ use Rattle.rows.specs.declared.row.Term.{Term}
 use Rattle.rows.specs.Parts.{CubeParts}
 use Rattle.rows.specs.Row.{term, IsSized}
 use Rattle.rows.specs.Cube.{value_at}
-use Rattle.rows.specs.Activity.{best_of}
+use Rattle.rows.specs.Activity.{best_of, worst_of}
+use Rattle.rows.specs.declared.activity.End.{End}
+use Rattle.rows.specs.declared.activity.End.TheVariants.{Greatest, Least}
+use Rattle.rows.specs.Inner.Ends.{taken_at, adds_at}
 use Rattle.rows.proofs.IntSums.{sized_sum, sized_low, sized_high, sized_from}
 
 sized_max : (n m : ℕ) → n ≤ m → unsigned_abs (best_of None (pos n)) ≤ m
@@ -20,6 +23,19 @@ best_of-sized (Some false) a m h = omega arith
 best_of-sized None (pos n) m h = sized_max n m h
 best_of-sized None (negsuc n) m h = omega arith
 
+sized_min : (n m : ℕ) → n ≤ m → unsigned_abs (worst_of None (pos n)) ≤ m
+sized_min n m h = grind arith
+
+worst_of-sized : (value : Option Bool) (a : ℤ) (m : ℕ) → unsigned_abs a ≤ m → unsigned_abs (worst_of value a) ≤ m
+worst_of-sized (Some true) a m h = h
+worst_of-sized (Some false) a m h = omega arith
+worst_of-sized None (pos n) m h = sized_min n m h
+worst_of-sized None (negsuc n) m h = omega arith
+
+pub taken-sized : (end : End) (value : Option Bool) (a : ℤ) (m : ℕ) → unsigned_abs a ≤ m → unsigned_abs (taken_at end value a) ≤ m
+taken-sized Greatest = best_of-sized
+taken-sized Least = worst_of-sized
+
 -- a loop that adds up what the terms add: each number that it meets, as the code has it
 abbrev pub blank : Term
 blank = term 0 (pos 0)
@@ -27,12 +43,12 @@ blank = term 0 (pos 0)
 pub plain : (a : ℤ) → unsigned_abs a ≤ 10 ^ 16 → to_z w128 (of_z w128 a) ≡ a
 plain a h = to_z-of_z w128 a (fits_signed_from_abs w128 a (omega (arith, h)))
 
-pub added_is : (cube : CubeParts) (xs : List Term) (i : ℕ) (value : Option Bool) (r : ℤ) → All (λ t. IsSized t.coef) xs → i < length xs → value ≡ value_at cube (get_or xs i blank).var.0
-    → r ≡ best_of value (to_z w128 (of_z w128 (get_or xs i blank).coef)) → r ≡ best_of (value_at cube (get_or xs i blank).var.0) (get_or xs i blank).coef
-added_is cube xs i value r sized here is e = e ∙ ap (best_of value) (plain (get_or xs i blank).coef (sized i blank here)) ∙ ap (λ v. best_of v (get_or xs i blank).coef) is
+pub added_is : (end : End) (cube : CubeParts) (xs : List Term) (i : ℕ) (value : Option Bool) (r : ℤ) → All (λ t. IsSized t.coef) xs → i < length xs → value ≡ value_at cube (get_or xs i blank).var.0
+    → r ≡ taken_at end value (to_z w128 (of_z w128 (get_or xs i blank).coef)) → r ≡ adds_at end cube (get_or xs i blank)
+added_is end cube xs i value r sized here is e = e ∙ ap (taken_at end value) (plain (get_or xs i blank).coef (sized i blank here)) ∙ ap (λ v. taken_at end v (get_or xs i blank).coef) is
 
-pub added_sized : (cube : CubeParts) (xs : List Term) (i : ℕ) (r : ℤ) → All (λ t. IsSized t.coef) xs → i < length xs → r ≡ best_of (value_at cube (get_or xs i blank).var.0) (get_or xs i blank).coef → unsigned_abs r ≤ 10 ^ 16
-added_sized cube xs i r sized here e = rw e (best_of-sized (value_at cube (get_or xs i blank).var.0) (get_or xs i blank).coef (10 ^ 16) (sized i blank here))
+pub added_sized : (end : End) (cube : CubeParts) (xs : List Term) (i : ℕ) (r : ℤ) → All (λ t. IsSized t.coef) xs → i < length xs → r ≡ adds_at end cube (get_or xs i blank) → unsigned_abs r ≤ 10 ^ 16
+added_sized end cube xs i r sized here e = rw e (taken-sized end (value_at cube (get_or xs i blank).var.0) (get_or xs i blank).coef (10 ^ 16) (sized i blank here))
 
 -- a sum of at most i + 1 numbers of a row fits
 pub sum_fits : (total r : ℤ) (i n : ℕ) → unsigned_abs total ≤ i * 10 ^ 16 → unsigned_abs r ≤ 10 ^ 16 → i < n → n < 2 ^ 64 → FitsSigned w128 (total +ℤ r)

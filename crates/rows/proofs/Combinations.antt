@@ -13,6 +13,7 @@ use Rattle.rows.specs.Row.{int_sum_by, term, coef_at}
 use Rattle.rows.specs.Reason.{row_of_pair, terms_times, empty_row, AllThere, IsReason, combination_of}
 use Rattle.rows.specs.Known.{row_at, variables}
 use Rattle.rows.specs.Cube.{value_at}
+use Rattle.rows.specs.declared.activity.End.TheVariants.{Greatest}
 use Rattle.rows.specs.Activity.{best_of, greatest_activity}
 use Rattle.rows.proofs.IntSums.{int_sum_by-append, sized_sum}
 use Rattle.rows.proofs.Activities.{plain_to, best_of-sized}
@@ -115,7 +116,7 @@ few_pairs pairs xs same ok = rw same ok.few
 
 -- the greatest activity of a combination
 pub combined_activity : (known : KnownParts) (pairs : List Pair) (cube : CubeParts) → int_sum_by (combined_best known pairs cube) (range_with_len 0 (variables known)) ≡ greatest_activity (combination_of known pairs) cube
-combined_activity known pairs cube = sym (activity_collected cube (variables known) (flat_map (λ p. terms_times p.times (row_of_pair known p)) pairs))
+combined_activity known pairs cube = sym (activity_collected Greatest cube (variables known) (flat_map (λ p. terms_times p.times (row_of_pair known p)) pairs))
 
 pub kept_small : (r s : ℤ) (m : ℕ) → unsigned_abs r ≤ m → m ≤ 2 ^ 118 → unsigned_abs s ≤ 10 ^ 12 * unsigned_abs (to_z w128 (of_z w128 r)) → unsigned_abs s ≤ 10 ^ 12 * m
 kept_small r s m h few k =

@@ -1,4 +1,4 @@
--- What members cost, by their numbers, and the cost row's greatest activity.
+-- What members cost, by their numbers, and the cost row's activities.
 use Rattle.std.proofs.Common.{◌≡◌, ℕ, zero, suc, ◌+◌, ◌-◌, ◌^◌, ◌≤◌, ◌<◌, ℤ, pos, negsuc, neg_ℤ, ◌+ℤ◌, ◌-ℤ◌, to_z, of_z, unsigned_abs, Bool, true, false, nat_eq, List, [], ◌∷◌, map, length, get_or, Option, Some, None, refl, sym, ap, ◌∙◌, inl, inr, arith, eq-eqb, length-append, if◌then◌else◌}
 use Rattle.std.specs.List.{All, enumerate_from, range_with_len}
 use Rattle.std.proofs.Math.IntN.{+ℤ_idl, +ℤ_idr}
@@ -15,10 +15,12 @@ use Rattle.rows.specs.declared.row.Term.{Term}
 use Rattle.rows.specs.Parts.{CubeParts}
 use Rattle.rows.specs.Row.{int_sum_by, term, coef_at, is_nonzero, collected}
 use Rattle.rows.specs.Cube.{value_at}
-use Rattle.rows.specs.Activity.{best_of, greatest_activity}
+use Rattle.rows.specs.declared.activity.End.{End}
+use Rattle.rows.specs.declared.activity.End.TheVariants.{Greatest, Least}
+use Rattle.rows.specs.Inner.Ends.{taken_at, adds_at, activity_at}
 use Rattle.rows.specs.BaseRows.{costs_of, cost_terms, cost_row_of, member_cost_of}
 use Rattle.std.specs.Int.{w128}
-use Rattle.rows.proofs.Activities.{best_of-sized, minus_is, minus_sized}
+use Rattle.rows.proofs.Activities.{taken-sized, minus_is, minus_sized}
 use Rattle.rows.proofs.IntSums.{int_sum_by-map, int_sum_by-filter, int_sum_by-same}
 
 -- members' costs are at most 10^12
@@ -86,34 +88,37 @@ pub cost_coef : (lib : LibraryParts) (v : ℕ) → coef_at (cost_terms lib) v �
 cost_coef lib v = coef_there 0 v v (costs_of lib) (omega arith)
 
 -- collected terms, one variable after another
-no_best : (value : Option Bool) (a : ℤ) → is_nonzero a ≡ false → best_of value a ≡ pos 0
-no_best (Some true) (pos zero) h = refl
-no_best (Some false) (pos zero) h = refl
-no_best None (pos zero) h = refl
-no_best value (pos (suc n)) h = absurd (let e : true ≡ false = h in cc)
-no_best value (negsuc n) h = absurd (let e : true ≡ false = h in cc)
+none_taken : (end : End) (value : Option Bool) (a : ℤ) → is_nonzero a ≡ false → taken_at end value a ≡ pos 0
+none_taken Greatest (Some true) (pos zero) h = refl
+none_taken Greatest (Some false) (pos zero) h = refl
+none_taken Greatest None (pos zero) h = refl
+none_taken Least (Some true) (pos zero) h = refl
+none_taken Least (Some false) (pos zero) h = refl
+none_taken Least None (pos zero) h = refl
+none_taken end value (pos (suc n)) h = absurd (let e : true ≡ false = h in cc)
+none_taken end value (negsuc n) h = absurd (let e : true ≡ false = h in cc)
 
-pub activity_collected : (cube : CubeParts) (n : ℕ) (terms : List Term) → int_sum_by (λ t. best_of (value_at cube t.var.0) t.coef) (collected n terms) ≡ int_sum_by (λ v. best_of (value_at cube v) (coef_at terms v)) (range_with_len 0 n)
-activity_collected cube n terms =
-    int_sum_by-filter (λ t. best_of (value_at cube t.var.0) t.coef) (λ t. is_nonzero t.coef) (λ t h. no_best (value_at cube t.var.0) t.coef h) (map (λ v. term v (coef_at terms v)) (range_with_len 0 n))
-    ∙ int_sum_by-map (λ t. best_of (value_at cube t.var.0) t.coef) (λ v. term v (coef_at terms v)) (range_with_len 0 n)
+pub activity_collected : (end : End) (cube : CubeParts) (n : ℕ) (terms : List Term) → int_sum_by (adds_at end cube) (collected n terms) ≡ int_sum_by (λ v. taken_at end (value_at cube v) (coef_at terms v)) (range_with_len 0 n)
+activity_collected end cube n terms =
+    int_sum_by-filter (adds_at end cube) (λ t. is_nonzero t.coef) (λ t h. none_taken end (value_at cube t.var.0) t.coef h) (map (λ v. term v (coef_at terms v)) (range_with_len 0 n))
+    ∙ int_sum_by-map (adds_at end cube) (λ v. term v (coef_at terms v)) (range_with_len 0 n)
 
--- what a member adds to the cost row's greatest activity
-abbrev pub cost_at : LibraryParts → CubeParts → ℕ → ℤ
-cost_at lib cube v = best_of (value_at cube v) (neg_ℤ (pos (member_cost_of lib v)))
+-- what a member adds to the cost row's activity
+abbrev pub cost_at : End → LibraryParts → CubeParts → ℕ → ℤ
+cost_at end lib cube v = taken_at end (value_at cube v) (neg_ℤ (pos (member_cost_of lib v)))
 
-pub cost_activity : (lib : LibraryParts) (cube : CubeParts) (bound : ℕ) → int_sum_by (cost_at lib cube) (range_with_len 0 (member_count lib)) ≡ greatest_activity (cost_row_of lib bound) cube
-cost_activity lib cube bound =
-    sym (activity_collected cube (member_count lib) (cost_terms lib)
-    ∙ int_sum_by-same (λ v. best_of (value_at cube v) (coef_at (cost_terms lib) v)) (cost_at lib cube) (λ v. ap (best_of (value_at cube v)) (cost_coef lib v)) (range_with_len 0 (member_count lib)))
+pub cost_activity : (end : End) (lib : LibraryParts) (cube : CubeParts) (bound : ℕ) → int_sum_by (cost_at end lib cube) (range_with_len 0 (member_count lib)) ≡ activity_at end (cost_row_of lib bound) cube
+cost_activity end lib cube bound =
+    sym (activity_collected end cube (member_count lib) (cost_terms lib)
+    ∙ int_sum_by-same (λ v. taken_at end (value_at cube v) (coef_at (cost_terms lib) v)) (cost_at end lib cube) (λ v. ap (taken_at end (value_at cube v)) (cost_coef lib v)) (range_with_len 0 (member_count lib)))
 
 -- what a member adds, as a loop meets it
-pub cost_added : (lib : LibraryParts) (cube : CubeParts) (v n : ℕ) (value : Option Bool) (r : ℤ) → n ≤ 10 ^ 12 → n ≡ member_cost_of lib v → value ≡ value_at cube v
-    → r ≡ best_of value (to_z w128 (of_z w128 (pos 0 -ℤ to_z w128 n))) → r ≡ cost_at lib cube v
-cost_added lib cube v n value r small cost is e =
-    e ∙ ap (best_of value) (minus_is n small) ∙ ap (λ o. best_of o (neg_ℤ (pos n))) is ∙ ap (λ m. best_of (value_at cube v) (neg_ℤ (pos m))) cost
+pub cost_added : (end : End) (lib : LibraryParts) (cube : CubeParts) (v n : ℕ) (value : Option Bool) (r : ℤ) → n ≤ 10 ^ 12 → n ≡ member_cost_of lib v → value ≡ value_at cube v
+    → r ≡ taken_at end value (to_z w128 (of_z w128 (pos 0 -ℤ to_z w128 n))) → r ≡ cost_at end lib cube v
+cost_added end lib cube v n value r small cost is e =
+    e ∙ ap (taken_at end value) (minus_is n small) ∙ ap (λ o. taken_at end o (neg_ℤ (pos n))) is ∙ ap (λ m. taken_at end (value_at cube v) (neg_ℤ (pos m))) cost
 
-pub cost_added_sized : (value : Option Bool) (n : ℕ) (r : ℤ) → n ≤ 10 ^ 12 → r ≡ best_of value (to_z w128 (of_z w128 (pos 0 -ℤ to_z w128 n))) → unsigned_abs r ≤ 10 ^ 16
-cost_added_sized value n r small e =
-    let sized = best_of-sized value (neg_ℤ (pos n)) (10 ^ 16) (minus_sized n small) in
+pub cost_added_sized : (end : End) (value : Option Bool) (n : ℕ) (r : ℤ) → n ≤ 10 ^ 12 → r ≡ taken_at end value (to_z w128 (of_z w128 (pos 0 -ℤ to_z w128 n))) → unsigned_abs r ≤ 10 ^ 16
+cost_added_sized end value n r small e =
+    let sized = taken-sized end value (neg_ℤ (pos n)) (10 ^ 16) (minus_sized n small) in
     rw (e, minus_is n small) sized

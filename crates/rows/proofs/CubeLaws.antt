@@ -1,16 +1,17 @@
 -- What cubes say of the vectors that lie in them.
-use Rattle.std.proofs.Common.{◌≡◌, ℕ, ◌<◌, ℤ, pos, negsuc, ◌+ℤ◌, ◌≤ℤ◌, int_lt, Bool, true, false, not, List, [], ◌∷◌, Some, None, refl, sym, ap, ◌∙◌, arith, inl, inr, if◌then◌else◌}
+use Rattle.std.proofs.Common.{◌≡◌, ℕ, ◌<◌, ℤ, pos, negsuc, ◌+ℤ◌, ◌≤ℤ◌, ◌<ℤ◌, int_lt, Bool, true, false, not, List, [], ◌∷◌, Some, None, refl, sym, ap, ◌∙◌, arith, inl, inr, if◌then◌else◌}
 use Rattle.std.specs.List.{AllByRecursion}
 use Rattle.std.specs.Prelude.{◌↔◌}
 use Rattle.std.proofs.lemmas.Int.{ints}
 use Rattle.std.proofs.lemmas.Bool.Decides.{eqb_tells}
 use Rattle.std.proofs.lemmas.List.Elements.{recursion_from_All}
+use Rattle.arch_model.proofs.Members.{bool_cases}
 use Rattle.arch_model.specs.Set.{has, put}
 use Rattle.rows.specs.declared.row.Term.{Term}
 use Rattle.rows.specs.Parts.{RowParts, CubeParts}
 use Rattle.rows.specs.Row.{value_of, RowHolds, IsRowBelow}
 use Rattle.rows.specs.Cube.{IsCube, value_at, is_free, fixed_at, LiesIn, IsFull}
-use Rattle.rows.specs.Activity.{best_of, greatest_activity, IsRefuted, is_refuted, Forces}
+use Rattle.rows.specs.Activity.{best_of, greatest_activity, worst_of, least_activity, IsRefuted, is_refuted, IsUnmet, Forces}
 use Rattle.rows.proofs.WhatIsForced.{has-put_other, ones_other, ones_same, above_least}
 
 -- a term adds at most its best value
@@ -42,6 +43,39 @@ value_at_most (t ∷ terms) cube x least lies =
 -- so a vector that meets a row lies in no cube where the row is refuted
 pub holds_nowhere : (row : RowParts) (cube : CubeParts) (x : ℕ → Bool) → LiesIn x cube → RowHolds row x → IsRefuted row cube → ⊥
 holds_nowhere row cube x lies holds refuted = let most = value_at_most row.terms cube x row.least lies in omega (arith, ints)
+
+-- a term adds at least its worst value
+worst_below : (a : ℤ) → (worst_of None a ≤ℤ a) × (worst_of None a ≤ℤ pos 0)
+worst_below (pos n) = (grind (arith, ints), grind (arith, ints))
+worst_below (negsuc n) = (omega (arith, ints), omega (arith, ints))
+
+free_at_least : (on : Bool) (a : ℤ) → worst_of None a ≤ℤ (if on then a else pos 0)
+free_at_least true a = (worst_below a).0
+free_at_least false a = (worst_below a).1
+
+at_least_worst : (on fixed one : Bool) (a : ℤ) → (fixed ≡ true → on ≡ one) → worst_of (if fixed then Some one else None) a ≤ℤ (if on then a else pos 0)
+at_least_worst on true one a same = le_same (if one then a else pos 0) (if on then a else pos 0) (ap (λ b. if b then a else pos 0) (sym (same refl)))
+at_least_worst on false one a same = free_at_least on a
+
+-- the sum of a row at a vector of a cube is at least its least activity
+value_at_least : (terms : List Term) (cube : CubeParts) (x : ℕ → Bool) (least : ℤ) → LiesIn x cube → least_activity (record { terms = terms; least = least }) cube ≤ℤ value_of terms x
+value_at_least [] cube x least lies = omega (arith, ints)
+value_at_least (t ∷ terms) cube x least lies =
+    add_le (worst_of (value_at cube t.var.0) t.coef) (if x t.var.0 then t.coef else pos 0) (least_activity (record { terms = terms; least = least }) cube) (value_of terms x)
+    (at_least_worst (x t.var.0) (has cube.fixed t.var.0) (has cube.ones t.var.0) t.coef (lies t.var.0)) (value_at_least terms cube x least lies)
+
+-- so where a row isn't unmet, each vector of the cube meets it
+not_below : (a l : ℤ) → (a <ℤ l → ⊥) → l ≤ℤ a
+not_below a l h = elim (bool_cases (int_lt a l)) [
+  | inl on ↦ absurd (h (let e : int_lt a l ≡ true = on in grind (arith, ints)))
+  | inr off ↦ above_least a l off
+]
+
+pub holds_where_met : (row : RowParts) (cube : CubeParts) (x : ℕ → Bool) → LiesIn x cube → (IsUnmet row cube → ⊥) → RowHolds row x
+holds_where_met row cube x lies met =
+    let low = value_at_least row.terms cube x row.least lies in
+    let above : row.least ≤ℤ least_activity row cube = not_below (least_activity row cube) row.least met in
+    omega (arith, ints)
 
 pub is_refuted_when : (row : RowParts) (cube : CubeParts) → is_refuted row cube ≡ true → IsRefuted row cube
 is_refuted_when row cube h = grind (arith, ints)

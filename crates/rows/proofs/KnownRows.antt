@@ -18,6 +18,16 @@ for_bound P lib None each = tt
 pub of_cost_row : (P : RowParts → Type 0) (known : KnownParts) (r : RowRef) → r ≡ Cost → ((u : ℕ) → P (cost_row_of known.problem.library u)) → IfSome (row_at known r) P
 of_cost_row P known r is each = let family : RowRef → Type 0 = λ s. IfSome (row_at known s) P in subst family (sym is) (for_bound P known.problem.library known.bound each)
 
+-- so is a fact of the cost row for the bound that there is
+for_this : (P : RowParts → Type 0) (lib : LibraryParts) (bound : Option ℕ) (u : ℕ) → bound ≡ Some u → P (cost_row_of lib u) → IfSome (option_map (cost_row_of lib) bound) P
+for_this P lib bound u e h = let family : Option ℕ → Type 0 = λ o. IfSome (option_map (cost_row_of lib) o) P in subst family (sym e) h
+
+pub of_bound_row : (P : RowParts → Type 0) (known : KnownParts) (r : RowRef) (lib : LibraryParts) (u : ℕ) → r ≡ Cost → lib ≡ known.problem.library → known.bound ≡ Some u → P (cost_row_of lib u) → IfSome (row_at known r) P
+of_bound_row P known r lib u is same e h =
+    let family : RowRef → Type 0 = λ s. IfSome (row_at known s) P in
+    let own : LibraryParts → Type 0 = λ l. P (cost_row_of l u) in
+    subst family (sym is) (for_this P known.problem.library known.bound u e (subst own same h))
+
 -- a fact of the row of a cut is one of the row of its name
 front_same : {X : Type 0} (xs : List X) (n j : ℕ) (x y : X) → slice_get (take n xs) j ≡ Some x → slice_get xs j ≡ Some y → x ≡ y
 front_same xs n j x y e f =
@@ -33,3 +43,12 @@ pub of_cut_row : (P : RowParts → Type 0) (known : KnownParts) (r : RowRef) (j 
 of_cut_row P known r j cut is at h =
     let family : RowRef → Type 0 = λ s. IfSome (row_at known s) P in
     subst family (sym is) (for_cut P (slice_get (take known.upto known.cuts) j) cut (λ x e. front_same known.cuts known.upto j x cut e at) h)
+
+-- what follows from one fact of the row of a name, or from two, where there is such a row
+pub if_some : {X : Type 0} (P Q : X → Type 0) (o : Option X) → ((x : X) → P x → Q x) → IfSome o P → IfSome o Q
+if_some P Q (Some x) f p = f x p
+if_some P Q None f p = tt
+
+pub if_both : {X : Type 0} (P Q R : X → Type 0) (o : Option X) → ((x : X) → P x → Q x → R x) → IfSome o P → IfSome o Q → IfSome o R
+if_both P Q R (Some x) f p q = f x p q
+if_both P Q R None f p q = tt

@@ -1,16 +1,20 @@
 -- When all rows of a list are quiet in a cube.
-use Rattle.std.proofs.Common.{◌≡◌, ℕ, ◌+◌, ◌<◌, ℤ, pos, int_lt, Bool, true, false, not, ◌&&◌, ◌↔◌, List, map, take, length, get_or, slice_get, Option, Some, None, option_map, is_none, is_some, refl, sym, ap, ◌∙◌, inl, inr, arith, IsTrue}
+use Rattle.std.proofs.Common.{◌≡◌, ℕ, ◌+◌, ◌<◌, ◌≤◌, ℤ, pos, int_lt, Bool, true, false, not, ◌&&◌, ◌↔◌, List, take, length, get_or, slice_get, Option, Some, None, option_map, is_none, is_some, IfSome, refl, sym, ap, subst, ◌∙◌, IsTrue}
 use Rattle.std.specs.List.{list_all, All}
-use Rattle.std.proofs.lemmas.Option.{slice_get_cases}
-use Rattle.std.proofs.lemmas.List.{length-take, get_or-take}
+use Rattle.std.proofs.lemmas.Option.{slice_get-get_or}
+use Rattle.std.proofs.lemmas.List.{take_all}
 use Rattle.std.proofs.lemmas.List.Sums.{AllPass-from_list_all, list_all-from_AllPass}
 use Rattle.std.proofs.lemmas.List.Elements.{All-weaker}
-use Rattle.std.proofs.lemmas.List.Folds.{list_all-map, list_all_more, list_all_at}
+use Rattle.std.proofs.lemmas.List.Folds.{list_all_more, list_all_at}
 use Rattle.arch_model.proofs.Members.{and_left, and_right, and_both}
 use Rattle.arch_model.specs.declared.sets.VarId.{VarId}
-use Rattle.rows.specs.Parts.{RowParts, CubeParts}
+use Rattle.rows.specs.declared.known.RowRef.{RowRef}
+use Rattle.rows.specs.Parts.{RowParts, CubeParts, KnownParts}
 use Rattle.rows.specs.Inner.Room.{room_of, number_of}
-use Rattle.rows.specs.Activity.{is_refuted, least_forced, IsQuietAt, is_quiet_at}
+use Rattle.rows.specs.Activity.{is_refuted, least_forced, IsQuietAt}
+use Rattle.rows.specs.Reason.{empty_row}
+use Rattle.rows.specs.Known.{row_at, known_rows}
+use Rattle.rows.specs.Inner.Quiet.{is_quiet_at}
 use Rattle.rows.proofs.WhatIsForced.{refuted_without_room}
 use Rattle.rows.proofs.LeastForced.{nothing_to, nothing_from}
 
@@ -53,21 +57,24 @@ all_tested cube rows = (
   (λ h. list_all-from_AllPass (is_quiet_at cube) rows (All-weaker (IsQuietAt cube) (λ row. is_quiet_at cube row ≡ true) (λ row quiet. passed cube row quiet) rows h)),
 )
 
--- a loop over the first items of a list
-read_at : {X : Type 0} (xs : List X) (j : ℕ) (x : X) → slice_get xs j ≡ Some x → (j < length xs) × (get_or xs j x ≡ x)
-read_at xs j x e = elim (slice_get_cases xs j).1 [
-  | inl w ↦ let same : w.0 ≡ x = cc in (w.1, ap (get_or xs j) (sym same) ∙ w.3 ∙ same)
-  | inr w ↦ absurd cc
-]
+-- a loop over the rows that are known
+module _ (known : KnownParts) (cube : CubeParts) (r : RowRef) (k : ℕ) (b : Bool) (at : row_at known r ≡ slice_get (known_rows known) k) (short : k < length (known_rows known)) (is : IfSome (row_at known r) (λ row. b ≡ is_quiet_at cube row)) where
+  test_at : b ≡ is_quiet_at cube (get_or (known_rows known) k empty_row)
+  test_at =
+      let family : Option RowParts → Type 0 = λ o. IfSome o (λ row. b ≡ is_quiet_at cube row) in
+      let there : row_at known r ≡ Some (get_or (known_rows known) k empty_row) = at ∙ slice_get-get_or (known_rows known) k empty_row short in
+      subst family there is
 
-pub all_past : {X Y : Type 0} (p : Y → Bool) (f : X → Y) (xs : List X) (j : ℕ) (x : X) (b : Bool) → slice_get xs j ≡ Some x → list_all p (map f (take j xs)) ≡ true → b ≡ p (f x) → b ≡ true → list_all p (map f (take (j + 1) xs)) ≡ true
-all_past p f xs j x b at before is passes =
-    let w = read_at xs j x at in
-    list_all-map p f (take (j + 1) xs) ∙ list_all_more (λ y. p (f y)) xs j x w.0
-    ∙ and_both (list_all (λ y. p (f y)) (take j xs)) (p (f (get_or xs j x))) (sym (list_all-map p f (take j xs)) ∙ before) (ap (λ y. p (f y)) w.1 ∙ sym is ∙ passes)
+  pub quiet_past : list_all (is_quiet_at cube) (take k (known_rows known)) ≡ true → b ≡ true → list_all (is_quiet_at cube) (take (k + 1) (known_rows known)) ≡ true
+  quiet_past before on =
+      list_all_more (is_quiet_at cube) (known_rows known) k empty_row short
+      ∙ and_both (list_all (is_quiet_at cube) (take k (known_rows known))) (is_quiet_at cube (get_or (known_rows known) k empty_row)) before (sym test_at ∙ on)
 
-pub all_fails : {X Y : Type 0} (p : Y → Bool) (f : X → Y) (xs : List X) (j n : ℕ) (x : X) (b : Bool) → slice_get xs j ≡ Some x → j < n → b ≡ p (f x) → b ≡ false → false ≡ list_all p (map f (take n xs))
-all_fails p f xs j n x b at short is fails =
-    let w = read_at xs j x at in
-    let here : j < length (take n xs) = omega (arith, length-take n xs, w.0, short) in
-    sym (list_all-map p f (take n xs) ∙ list_all_at (λ y. p (f y)) (take n xs) j x here (ap (λ y. p (f y)) (get_or-take n xs j x short ∙ w.1) ∙ sym is ∙ fails))
+  pub loud_here : b ≡ false → IsTrue false ↔ All (IsQuietAt cube) (known_rows known)
+  loud_here off = (
+    (λ h. absurd (let e : false ≡ true = h in cc)),
+    (λ all. sym (list_all_at (is_quiet_at cube) (known_rows known) k empty_row short (sym test_at ∙ off)) ∙ (all_tested cube (known_rows known)).1 all),
+  )
+
+pub quiet_end : (cube : CubeParts) (rows : List RowParts) (k : ℕ) → length rows ≤ k → list_all (is_quiet_at cube) (take k rows) ≡ true → IsTrue true ↔ All (IsQuietAt cube) rows
+quiet_end cube rows k far all = ((λ h. (all_tested cube rows).0 (sym (ap (list_all (is_quiet_at cube)) (take_all k rows far)) ∙ all)), (λ h. refl))

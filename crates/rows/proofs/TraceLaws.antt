@@ -15,13 +15,14 @@ use Rattle.rows.specs.declared.row.Term.{Term}
 use Rattle.rows.specs.declared.known.RowRef.{RowRef}
 use Rattle.rows.specs.declared.known.RowRef.TheVariants.{Base, Cut, Cost}
 use Rattle.rows.specs.Parts.{RowParts, CutParts, CubeParts, KnownParts}
-use Rattle.rows.specs.Row.{RowHolds, IsRowBelow, row_of_cut, term, cut_coef, is_nonzero, coef_at}
+use Rattle.rows.specs.Row.{RowHolds, IsRow, Ascends, IsRowBelow, row_of_cut, term, cut_coef, is_nonzero, coef_at}
 use Rattle.rows.specs.Cube.{IsCubeBelow, LiesIn, fixed_at}
 use Rattle.rows.specs.BaseRows.{cost_row_of, cost_terms}
 use Rattle.rows.specs.Problem.{IsProblem}
 use Rattle.rows.specs.Activity.{Forces, forces, least_forced}
 use Rattle.rows.specs.Known.{known_rows, known_cuts, row_at, variables, IsKnown, IsCutBelow}
 use Rattle.rows.specs.Trace.{cube_after, cube_after_step}
+use Rattle.rows.proofs.Ascending.{collected_ascend, cut_ascends}
 use Rattle.rows.proofs.AllParts.{all_left, all_right}
 use Rattle.rows.proofs.CubeLaws.{holds_nowhere, is_refuted_when}
 use Rattle.rows.proofs.SetFacts.{has-put_keeps, put_below}
@@ -271,8 +272,28 @@ bound_below lib None = All-nil (IsRowBelow (member_count lib))
 
 pub rows_below : (known : KnownParts) → IsProblem known.problem → IsKnown known → All (IsRowBelow (variables known)) (known_rows known)
 rows_below known problem is =
-    All-append (IsRowBelow (variables known)) known.problem.base (map row_of_cut (known_cuts known) ++ option_to_list (option_map (cost_row_of known.problem.library) known.bound)) problem.variables
+    All-append (IsRowBelow (variables known)) known.problem.base (map row_of_cut (known_cuts known) ++ option_to_list (option_map (cost_row_of known.problem.library) known.bound)) problem.decide.variables
     (All-append (IsRowBelow (variables known)) (map row_of_cut (known_cuts known)) (option_to_list (option_map (cost_row_of known.problem.library) known.bound))
     (All-map (IsRowBelow (variables known)) row_of_cut (known_cuts known)
     (All-weaker (IsCutBelow (variables known)) (λ cut. IsRowBelow (variables known) (row_of_cut cut)) (cut_below (variables known)) (known_cuts known) (All-take (IsCutBelow (variables known)) known.upto known.cuts is.cuts)))
     (bound_below known.problem.library known.bound))
+
+-- the terms of each row that is known ascend
+bound_ascends : (lib : LibraryParts) (bound : Option ℕ) → All Ascends (option_to_list (option_map (cost_row_of lib) bound))
+bound_ascends lib (Some u) = All-cons Ascends (cost_row_of lib u) [] (collected_ascend (member_count lib) (cost_terms lib)) (All-nil Ascends)
+bound_ascends lib None = All-nil Ascends
+
+cuts_ascend : (cuts : List CutParts) → AllByRecursion (λ cut. Ascends (row_of_cut cut)) cuts
+cuts_ascend [] = tt
+cuts_ascend (cut ∷ cuts) = (cut_ascends cut, cuts_ascend cuts)
+
+pub rows_ascend : (known : KnownParts) → IsProblem known.problem → All Ascends (known_rows known)
+rows_ascend known problem =
+    All-append Ascends known.problem.base (map row_of_cut (known_cuts known) ++ option_to_list (option_map (cost_row_of known.problem.library) known.bound))
+    (All-weaker IsRow Ascends (λ row is. is.ascending) known.problem.base problem.rows)
+    (All-append Ascends (map row_of_cut (known_cuts known)) (option_to_list (option_map (cost_row_of known.problem.library) known.bound))
+    (All-map Ascends row_of_cut (known_cuts known) (All-from_recursion (λ cut. Ascends (row_of_cut cut)) (known_cuts known) (cuts_ascend (known_cuts known))))
+    (bound_ascends known.problem.library known.bound))
+
+pub named_ascends : (known : KnownParts) (r : RowRef) (row : RowParts) → IsProblem known.problem → row_at known r ≡ Some row → Ascends row
+named_ascends known r row problem there = known_has Ascends known r row (rows_ascend known problem) there

@@ -1,12 +1,13 @@
 -- Worked rows: what the definitions compute on small libraries.
-use Rattle.std.proofs.Common.{◌≡◌, ℕ, ℤ, pos, negsuc, true, false, nat_eq, arith, List, [], ◌∷◌, map, take, drop, replicate, Option, Some, None, refl}
-use Rattle.std.specs.List.{range_with_len, list_all}
+use Rattle.std.proofs.Common.{◌≡◌, ℕ, ◌<◌, ◌≤◌, ◌↔◌, ℤ, pos, negsuc, Bool, length, true, false, nat_eq, arith, List, [], ◌∷◌, map, take, drop, replicate, Option, Some, None, refl}
+use Rattle.std.specs.List.{All, range_with_len, list_all}
 use Rattle.arch_model.specs.declared.library.TypeRow.{TypeRow}
 use Rattle.arch_model.specs.declared.library.LinkRow.{LinkRow}
 use Rattle.arch_model.specs.declared.library.Pattern.{Pattern}
 use Rattle.arch_model.specs.declared.library.Pattern.TheVariants.{Count, InDegree, OutDegree, InNeedsOut, Exclusive, Implies, Forbid, TotalSupply, LocalSupply, CostCap}
 use Rattle.arch_model.specs.declared.template.Role.TheVariants.{Source, Middle, Sink}
-use Rattle.arch_model.specs.Parts.{LibraryParts}
+use Rattle.arch_model.specs.Parts.{LibraryParts, ArchitectureParts}
+use Rattle.arch_model.specs.Member.{member_count}
 use Rattle.arch_model.specs.Set.{has, empty, put, union, members_below}
 use Rattle.arch_model.specs.Library.{library_parts}
 use Rattle.arch_model.specs.Template.{template_of}
@@ -14,19 +15,72 @@ use Rattle.rows.specs.declared.row.Term.{Term}
 use Rattle.rows.specs.declared.known.Pair.{Pair}
 use Rattle.rows.specs.declared.known.RowRef.TheVariants.{Base, Cut, Cost}
 use Rattle.rows.specs.Parts.{RowParts, KnownParts}
-use Rattle.rows.specs.Row.{term, RowHolds}
+use Rattle.rows.specs.declared.cut.TheConstants.{CUTS}
+use Rattle.rows.specs.Row.{term, RowHolds, IsSized, IsRowBelow}
 use Rattle.std.proofs.lemmas.Int.{ints}
 use Rattle.rows.specs.Cube.{whole, fixed_at, is_free}
-use Rattle.rows.specs.Activity.{is_refuted, least_forced, is_quiet_at}
+use Rattle.rows.specs.Activity.{greatest_activity, least_activity, is_refuted, is_unmet, least_forced}
+use Rattle.rows.specs.Inner.Quiet.{is_quiet_at}
 use Rattle.rows.specs.Known.{known_rows}
 use Rattle.rows.specs.BaseRows.{base_rows_of, cost_row_of}
 use Rattle.rows.specs.Trace.{cube_after}
-use Rattle.rows.specs.Reason.{combination_of}
-use Rattle.rows.specs.Ascent.{ascent_of, is_ascent_refuted}
+use Rattle.rows.specs.Problem.{IsVectorOf, IsCandidate, DecidePatterns}
+use Rattle.rows.specs.Reason.{IsReason, combination_of}
+use Rattle.rows.specs.Ascent.{times_of, ascent_of, is_ascent_refuted}
+
+-- the limits that clauses and definitions cite: how many cuts a list has at most
+limits : CUTS ≡ 100001
+limits = refl
+
+-- numbers of a row at the limit, and past it
+sized : IsSized (pos 10000000000000000) × IsSized (negsuc 9999999999999999)
+sized = (omega arith, omega arith)
+
+not-sized : IsSized (pos 10000000000000001) → ⊥
+not-sized h = omega (arith, h)
+
+not-sized_below : IsSized (negsuc 10000000000000000) → ⊥
+not-sized_below h = omega (arith, h)
+
+-- a reason has 1 to 64 pairs, with multipliers of 1 to 10^12
+reason-when : (pairs : List Pair) → 1 ≤ length pairs → length pairs ≤ 64 → All (λ p. 1 ≤ p.times) pairs → All (λ p. p.times ≤ 1000000000000) pairs → IsReason pairs
+reason-when pairs some few positive small = record { some = some; few = few; positive = positive; sized = small }
+
+reason-then : (pairs : List Pair) → IsReason pairs → (1 ≤ length pairs) × (length pairs ≤ 64) × All (λ p. 1 ≤ p.times) pairs × All (λ p. p.times ≤ 1000000000000) pairs
+reason-then pairs is = (is.some, is.few, is.positive, is.sized)
+
+-- a problem has fewer than 2^32 rows
+few_rows-when : (lib : LibraryParts) (rows : List RowParts) → length rows < 4294967296 → All (IsRowBelow (member_count lib)) rows
+    → ((x : ℕ → Bool) → All (λ row. RowHolds row x) rows ↔ ((arch : ArchitectureParts) × IsVectorOf lib arch x × IsCandidate lib arch)) → DecidePatterns lib rows
+few_rows-when lib rows few variables exact = record { few = few; variables = variables; exact = exact }
+
+few_rows-then : (lib : LibraryParts) (rows : List RowParts) → DecidePatterns lib rows → length rows < 4294967296
+few_rows-then lib rows is = is.few
 
 -- a row written out
 abbrev row : List Term → ℤ → RowParts
 row terms least = record { terms = terms; least = least }
+
+-- 3 x_0 - 2 x_1: the ends of its range in a cube, and where 2 at least is unmet
+abbrev mixed : RowParts
+mixed = row (term 0 (pos 3) ∷ term 1 (negsuc 1) ∷ []) (pos 2)
+
+mixed-whole : (greatest_activity mixed whole ≡ pos 3) × (least_activity mixed whole ≡ negsuc 1)
+unfolding has empty put
+mixed-whole = (refl, refl)
+
+mixed-one : (least_activity mixed (fixed_at whole 0 true) ≡ pos 1) × (is_unmet mixed (fixed_at whole 0 true) ≡ true)
+unfolding has empty put
+mixed-one = (refl, refl)
+
+mixed-met : is_unmet mixed (fixed_at (fixed_at whole 0 true) 1 false) ≡ false
+unfolding has empty put
+mixed-met = refl
+
+-- no row is added more than 10^12 times
+times-limit : times_of whole (λ v. 3000000000000) (row (term 0 (pos 1) ∷ []) (pos 1)) ≡ 1000000000000
+unfolding has empty put
+times-limit = refl
 
 -- U: a source s of cost 1, and a required sink t
 abbrev types_u : List TypeRow

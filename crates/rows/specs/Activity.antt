@@ -1,6 +1,6 @@
 -- Greatest activities, and what a row refutes and forces in a cube (textbook propagation).
-use Rattle.std.specs.Prelude.{is_none, ◌≡◌, ℕ, ◌≤◌, ℤ, pos, ◌<ℤ◌, int_lt, Bool, true, false, not, ◌&&◌, map, Option, Some, None, if◌then◌else◌}
-use Rattle.std.specs.Int.{int_max}
+use Rattle.std.specs.Prelude.{◌≡◌, ℕ, ◌≤◌, ℤ, pos, ◌<ℤ◌, int_lt, Bool, true, false, not, ◌&&◌, map, Option, Some, None, if◌then◌else◌}
+use Rattle.std.specs.Int.{int_max, int_min}
 use Rattle.std.specs.Option.{option_map}
 use Rattle.std.specs.List.{find}
 use Rattle.rows.specs.Parts.{RowParts, CubeParts}
@@ -23,6 +23,23 @@ IsRefuted row cube = greatest_activity row cube <ℤ row.least
 -- its test
 abbrev pub is_refuted : RowParts → CubeParts → Bool
 is_refuted row cube = int_lt (greatest_activity row cube) row.least
+
+-- what a coefficient adds at least: itself at 1, nothing at 0, the lesser of the two where the variable is free
+abbrev pub worst_of : Option Bool → ℤ → ℤ
+worst_of (Some b) a = if b then a else pos 0
+worst_of None a = int_min a (pos 0)
+
+-- the least value that a row's sum takes in a cube
+abbrev pub least_activity : RowParts → CubeParts → ℤ
+least_activity row cube = int_sum_by (λ t. worst_of (value_at cube t.var.0) t.coef) row.terms
+
+-- a row is unmet in a cube where that is below its least; where it isn't, each vector of the cube meets the row
+abbrev pub IsUnmet : RowParts → CubeParts → Type 0
+IsUnmet row cube = least_activity row cube <ℤ row.least
+
+-- its test
+abbrev pub is_unmet : RowParts → CubeParts → Bool
+is_unmet row cube = int_lt (least_activity row cube) row.least
 
 -- a row forces v to b where it isn't refuted, v is free, and it is refuted once v has the other value
 pub record Forces (row : RowParts) (cube : CubeParts) (v : ℕ) (b : Bool) : Type 0 where
@@ -52,7 +69,3 @@ pub record IsLeastForced (row : RowParts) (cube : CubeParts) (v : ℕ) (b : Bool
 pub record IsQuietAt (cube : CubeParts) (row : RowParts) : Type 0 where
   pub open_yet : is_refuted row cube ≡ false
   pub still : ForcesNothing row cube
-
--- its test
-abbrev pub is_quiet_at : CubeParts → RowParts → Bool
-is_quiet_at cube row = not (is_refuted row cube) && is_none (least_forced row cube)

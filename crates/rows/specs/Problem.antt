@@ -6,7 +6,7 @@ use Rattle.arch_model.specs.Parts.{LibraryParts, ArchitectureParts}
 use Rattle.arch_model.specs.Admissible.{MeetsPatterns}
 use Rattle.arch_model.specs.Member.{is_present, member_count}
 use Rattle.rows.specs.Parts.{RowParts, ProblemParts}
-use Rattle.rows.specs.Row.{RowHolds, IsRowBelow}
+use Rattle.rows.specs.Row.{RowHolds, IsRow, IsRowBelow}
 
 -- a vector is that of an architecture where it says which members are present
 abbrev pub IsVectorOf : LibraryParts → ArchitectureParts → (ℕ → Bool) → Type 0
@@ -23,9 +23,10 @@ pub record DecidePatterns (lib : LibraryParts) (rows : List RowParts) : Type 0 w
   pub variables : All (IsRowBelow (member_count lib)) rows
   pub exact : (x : ℕ → Bool) → All (λ row. RowHolds row x) rows ↔ ((arch : ArchitectureParts) × IsVectorOf lib arch x × IsCandidate lib arch)
 
--- a problem: its rows decide its library's patterns
-abbrev pub IsProblem : ProblemParts → Type 0
-IsProblem problem = DecidePatterns problem.library problem.base
+-- a problem: its rows are rows, and decide its library's patterns
+pub record IsProblem (problem : ProblemParts) : Type 0 where
+  pub rows : All IsRow problem.base
+  pub decide : DecidePatterns problem.library problem.base
 
 -- the problem of a library and rows
 abbrev pub problem_parts : LibraryParts → List RowParts → ProblemParts

@@ -50,9 +50,13 @@ row_parts terms least = record { terms = terms; least = least }
 abbrev pub IsSized : ℤ → Type 0
 IsSized a = unsigned_abs a ≤ 10 ^ 16
 
+-- the terms of a row ascend by variable, so each variable has at most one
+abbrev pub Ascends : RowParts → Type 0
+Ascends row = IsStrictlyIncreasing (map (λ t. t.var.0) row.terms)
+
 -- ascending terms, no zero coefficient, and each number at most 10^16 in absolute value
 pub record IsRow (row : RowParts) : Type 0 where
-  pub ascending : IsStrictlyIncreasing (map (λ t. t.var.0) row.terms)
+  pub ascending : Ascends row
   pub nonzero : All (λ t. t.coef ≢ pos 0) row.terms
   pub sized : All (λ t. IsSized t.coef) row.terms
   pub least : IsSized row.least

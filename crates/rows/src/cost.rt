@@ -1,12 +1,9 @@
-// What members cost, and the cost row.
-ghost use Rattle.std.specs.Prelude.{◌≡◌, ℕ, ◌≤◌, ◌<◌, ◌^◌, unsigned_abs};
+// What members cost.
+ghost use Rattle.std.specs.Prelude.{◌≡◌, ◌≤◌, ◌<◌, ◌^◌};
 ghost use Rattle.arch_model.specs.Library.{IsLibrary};
 ghost use Rattle.arch_model.specs.Member.{member_count};
-ghost use Rattle.rows.specs.Activity.{greatest_activity};
-ghost use Rattle.rows.specs.BaseRows.{cost_row_of, member_cost_of};
+ghost use Rattle.rows.specs.BaseRows.{member_cost_of};
 
-use crate::cube::Cube;
-use crate::judge::best;
 use arch_model::limits::MEMBERS;
 use arch_model::{Library, VarId};
 
@@ -32,17 +29,4 @@ pub fn member_cost(lib: &Library, v: VarId) -> u64
     } else {
         lib.edges()[i - components.len()].cost
     }
-}
-
-// The greatest value of the cost row's sum, which is the same for each bound.
-pub(crate) fn greatest_of_cost(lib: &Library, cube: &Cube) -> i128
-    ensures value { (bound : ℕ) → result ≡ greatest_activity (cost_row_of lib.now bound) cube.now }
-    ensures small { unsigned_abs result ≤ 2 ^ 118 }
-{
-    let mut total: i128 = 0;
-    for i in 0..variable_count(lib) {
-        let v = VarId(i);
-        total += best(cube.value(v), -(member_cost(lib, v) as i128));
-    }
-    total
 }

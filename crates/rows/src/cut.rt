@@ -13,7 +13,7 @@ use std::marker::Model;
 
 /// The row of a cut: coefficients 1 and -1 at two sets of variables, and a least. Each value of the
 /// type has no variable in both sets, and a least of at most 10^16 in absolute value (`IsCut`).
-#[derive(Clone, Copy)]
+#[derive(Clone, Copy, PartialEq, Eq)]
 pub struct CutRow {
     plus: MemberSet,
     minus: MemberSet,

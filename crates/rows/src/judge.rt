@@ -1,22 +1,17 @@
-// Which rows are known, how great their sums can get in a cube, and which are refuted.
-ghost use Rattle.std.specs.Prelude.{◌≡◌, ℕ, ◌+◌, ◌*◌, ◌≤◌, ◌^◌, ◌<◌, pos, neg_ℤ, ◌-ℤ◌, IfSome, IsTrue, unsigned_abs};
-ghost use Rattle.std.specs.Prelude.{◌↔◌, if◌then◌else◌, sum_by};
-ghost use Rattle.std.specs.List.{enumerate_from};
-ghost use Rattle.rows.specs.Row.{IsRow, IsSized, row_of_cut};
-ghost use Rattle.rows.specs.Cube.{IsCube, value_at};
-ghost use Rattle.rows.specs.Activity.{best_of, greatest_activity, is_refuted, IsRefuted};
-ghost use Rattle.rows.specs.BaseRows.{cost_row_of, costs_of};
+// What a known row says of a cube: how great its sum gets, whether it is refuted or unmet, and what
+// it forces.
+ghost use Rattle.std.specs.Prelude.{◌≡◌, ℕ, ◌≤◌, ◌^◌, ◌↔◌, Some, IsTrue, IfSome, IfNone, option_map, replicate, unsigned_abs};
+ghost use Rattle.rows.specs.Activity.{greatest_activity, is_refuted, IsRefuted, is_unmet, IsUnmet, least_forced};
+ghost use Rattle.rows.specs.Activity.{IsLeastForced, ForcesNothing, IsQuietAt};
+ghost use Rattle.rows.specs.Inner.Room.{number_of};
 ghost use Rattle.rows.specs.Known.{parts_of, has_row, row_at};
-ghost use Rattle.arch_model.specs.Library.{IsLibrary};
-ghost use Rattle.arch_model.specs.Architecture.{present};
-ghost use Rattle.arch_model.specs.Set as set;
+ghost use Rattle.rows.specs.Trace.{cube_after};
 
-use crate::cost::greatest_of_cost;
+use crate::activity::End;
+use crate::by_name::{activity_of, fix_by, forced_by, least_of, room_in};
 use crate::cube::Cube;
-use crate::cut::CutRow;
 use crate::known::{Known, RowRef};
-use crate::row::Row;
-use arch_model::{Component, Edge, Library, MemberSet, VarId};
+use arch_model::VarId;
 
 /// Whether there is a row of this name: a base row, a cut that is known, or, where there is a
 /// bound, the cost row.
@@ -30,41 +25,6 @@ pub fn has(known: &Known, r: RowRef) -> bool
     }
 }
 
-// What a coefficient adds at most.
-pub(crate) fn best(value: Option<bool>, coef: i128) -> i128
-    ensures { result ≡ best_of value coef }
-{
-    match value {
-        Some(true) => coef,
-        Some(false) => 0,
-        None => coef.max(0),
-    }
-}
-
-// The greatest value of a row's sum.
-pub(crate) fn greatest_of_row(row: &Row, cube: &Cube) -> i128
-    ensures value { result ≡ greatest_activity row.now cube.now }
-    ensures small { unsigned_abs result ≤ 2 ^ 118 }
-{
-    let mut total: i128 = 0;
-    for term in row.terms() {
-        total += best(cube.value(term.var), term.coef);
-    }
-    total
-}
-
-// The same for a cut: how many variables of the one set aren't at 0, less how many of the other are
-// at 1.
-pub(crate) fn greatest_of_cut(cut: &CutRow, cube: &Cube) -> i128
-    ensures value { result ≡ greatest_activity (row_of_cut cut.now) cube.now }
-    ensures small { unsigned_abs result ≤ 2 ^ 118 }
-{
-    let zeros = cube.fixed().minus(&cube.ones());
-    let most = cut.plus().minus(&zeros).len();
-    let least = cut.minus().intersection(&cube.ones()).len();
-    most as i128 - least as i128
-}
-
 /// The greatest value that a row's sum takes in a cube: fixed variables at their values, free ones
 /// at the better one.
 pub fn greatest(known: &Known, r: RowRef, cube: &Cube) -> i128
@@ -72,24 +32,7 @@ pub fn greatest(known: &Known, r: RowRef, cube: &Cube) -> i128
     ensures value { IfSome (row_at (parts_of known.now) r) (λ row. result ≡ greatest_activity row cube.now) }
     ensures small { unsigned_abs result ≤ 2 ^ 118 }
 {
-    match r {
-        RowRef::Base(i) => greatest_of_row(&known.problem.base()[i as usize], cube),
-        RowRef::Cut(j) => greatest_of_cut(&known.cuts.get(j), cube),
-        RowRef::Cost => greatest_of_cost(known.problem.library(), cube),
-    }
-}
-
-// What a row's sum must come to at least.
-pub(crate) fn least_of(known: &Known, r: RowRef) -> i128
-    requires { IsTrue (has_row (parts_of known.now) r) }
-    ensures value { IfSome (row_at (parts_of known.now) r) (λ row. result ≡ row.least) }
-    ensures small { unsigned_abs result ≤ 2 ^ 65 }
-{
-    match r {
-        RowRef::Base(i) => known.problem.base()[i as usize].least(),
-        RowRef::Cut(j) => known.cuts.get(j).least(),
-        RowRef::Cost => 1 - known.bound.unwrap() as i128,
-    }
+    activity_of(known, r, cube, End::Greatest)
 }
 
 /// Whether a row is refuted in a cube: even the greatest value of its sum is below its least.
@@ -98,5 +41,52 @@ pub fn refuted(known: &Known, r: RowRef, cube: &Cube) -> bool
     ensures test { IfSome (row_at (parts_of known.now) r) (λ row. result ≡ is_refuted row cube.now) }
     ensures refuted { IfSome (row_at (parts_of known.now) r) (λ row. IsTrue result ↔ IsRefuted row cube.now) }
 {
-    greatest(known, r, cube) < least_of(known, r)
+    room_in(known, r, cube) < 0
+}
+
+/// Whether a row is unmet in a cube: the least value that its sum takes there, free variables at
+/// the worse value, is below its least. Where it isn't unmet, each vector of the cube meets it.
+pub fn unmet(known: &Known, r: RowRef, cube: &Cube) -> bool
+    requires { IsTrue (has_row (parts_of known.now) r) }
+    ensures test { IfSome (row_at (parts_of known.now) r) (λ row. result ≡ is_unmet row cube.now) }
+    ensures unmet { IfSome (row_at (parts_of known.now) r) (λ row. IsTrue result ↔ IsUnmet row cube.now) }
+{
+    activity_of(known, r, cube, End::Least) < least_of(known, r)
+}
+
+/// The least variable that a row forces in a cube, and the value to which; None where the row is
+/// refuted or forces nothing. A row forces a free variable to a value where it isn't refuted, but
+/// is once the variable has the other value.
+pub fn forces(known: &Known, r: RowRef, cube: &Cube) -> Option<(VarId, bool)>
+    requires { IsTrue (has_row (parts_of known.now) r) }
+    ensures first { IfSome (row_at (parts_of known.now) r)
+        (λ row. option_map number_of result ≡ least_forced row cube.now) }
+    ensures least { IfSome (row_at (parts_of known.now) r)
+        (λ row. IfSome result (λ p. IsLeastForced row cube.now p.0.0 p.1)) }
+    ensures none { IfSome (row_at (parts_of known.now) r) (λ row. IfNone result (ForcesNothing row cube.now)) }
+{
+    let room = room_in(known, r, cube);
+    if room < 0 {
+        return None;
+    }
+    forced_by(known, r, cube, room)
+}
+
+/// Fixes all that a row forces in a cube, least variable first, and says how many variables that
+/// were. None comes exactly where the row is refuted, and then the cube stays. A trace that names
+/// the row once for each of these variables leads from the one cube to the other, where the row is
+/// quiet.
+pub fn fix_forced(known: &Known, r: RowRef, cube: &mut Cube) -> Option<usize>
+    requires { IsTrue (has_row (parts_of known.now) r) }
+    ensures refuted { IfNone result (IfSome (row_at (parts_of known.now) r) (λ row. IsRefuted row cube.old)) }
+    ensures same { IfNone result (cube.new ≡ cube.old) }
+    ensures steps { IfSome result
+        (λ k. cube_after (parts_of known.now) cube.old (replicate k r) ≡ Some cube.new) }
+    ensures quiet { IfSome result (λ _. IfSome (row_at (parts_of known.now) r) (IsQuietAt cube.new)) }
+{
+    let room = room_in(known, r, cube);
+    if room < 0 {
+        return None;
+    }
+    Some(fix_by(known, r, cube, room))
 }

@@ -1,18 +1,17 @@
 //! Laws of rows, cubes and forcing, each the contract of a function without a body.
-ghost use Rattle.std.specs.Prelude.{◌≡◌, ◌↔◌, ℕ, ◌+◌, ◌<◌, Bool, false, Some, None, List, ◌++◌, map, length};
+ghost use Rattle.std.specs.Prelude.{◌≡◌, ◌↔◌, ℕ, ◌+◌, ◌<◌, Bool, false, Some, None, List, ◌++◌, length};
 ghost use Rattle.std.specs.List.{All};
-ghost use Rattle.std.specs.List.Sorted.{IsStrictlyIncreasing};
 ghost use Rattle.arch_model.specs.Set.{has, len};
 ghost use Rattle.arch_model.specs.Parts.{LibraryParts, ArchitectureParts};
 ghost use Rattle.arch_model.specs.Library.{IsLibrary};
 ghost use Rattle.arch_model.specs.Architecture.{IsArchitecture, cost_of};
 ghost use Rattle.rows.specs.Parts.{RowParts, CutParts, CubeParts, KnownParts};
-ghost use Rattle.rows.specs.Row.{RowHolds, IsRowBelow, row_of_cut};
+ghost use Rattle.rows.specs.Row.{RowHolds, Ascends, IsRowBelow, row_of_cut};
 ghost use Rattle.rows.specs.Cube.{IsCube, IsCubeBelow, LiesIn, IsFull};
-ghost use Rattle.rows.specs.Activity.{IsRefuted, is_refuted, Forces, ForcesNothing, least_forced, IsLeastForced};
+ghost use Rattle.rows.specs.Activity.{IsRefuted, is_refuted, IsUnmet, Forces, ForcesNothing, least_forced, IsLeastForced};
 ghost use Rattle.rows.specs.BaseRows.{edge_rows, cost_row_of};
 ghost use Rattle.rows.specs.declared.known.RowRef.{RowRef};
-ghost use Rattle.rows.specs.Known.{known_rows, variables, IsKnown};
+ghost use Rattle.rows.specs.Known.{row_at, known_rows, variables, IsKnown};
 ghost use Rattle.rows.specs.Problem.{IsProblem, IsVectorOf};
 ghost use Rattle.rows.specs.Trace.{cube_after};
 
@@ -28,21 +27,30 @@ pub fn forced_values_are_kept()
         → Forces row cube v b → LiesIn x cube → RowHolds row x → x v ≡ b }
 {}
 
+/// A row that isn't unmet in a cube holds for each vector that lies in it.
+pub fn met_rows_hold()
+    ensures { (row : RowParts) (cube : CubeParts) (x : ℕ → Bool) → LiesIn x cube → (IsUnmet row cube → ⊥)
+        → RowHolds row x }
+{}
+
 /// The forced variable that comes first in term order is the least of all that the row forces, with
-/// the value to which it is forced, where terms ascend. There is none exactly where the row forces
-/// nothing.
+/// the value to which it is forced, where terms ascend, as those of each row that is known for a
+/// problem do. There is none exactly where the row forces nothing.
 pub fn the_least_is_forced()
-    ensures least { (row : RowParts) (cube : CubeParts) → IsStrictlyIncreasing (map (λ t. t.var.0) row.terms)
-        → IsCube cube → (v : ℕ) (b : Bool) → (least_forced row cube ≡ Some (v, b)) ↔ IsLeastForced row cube v b }
+    ensures least { (row : RowParts) (cube : CubeParts) → Ascends row → IsCube cube → (v : ℕ) (b : Bool)
+        → (least_forced row cube ≡ Some (v, b)) ↔ IsLeastForced row cube v b }
+    ensures known { (known : KnownParts) (r : RowRef) (row : RowParts) (cube : CubeParts) → IsProblem known.problem
+        → row_at known r ≡ Some row → IsCube cube → (v : ℕ) (b : Bool)
+        → (least_forced row cube ≡ Some (v, b)) ↔ IsLeastForced row cube v b }
     ensures none { (row : RowParts) (cube : CubeParts) → (least_forced row cube ≡ None) ↔ ForcesNothing row cube }
 {}
 
-/// The terms of a cut's row and of a cost row ascend. Those of a base row do since each `Row` keeps
-/// it (`Row::terms`).
+/// The terms of a cut's row and of a cost row ascend, and so do those of all rows that are known for
+/// a problem, since each problem keeps that its base rows are rows.
 pub fn terms_ascend()
-    ensures cut { (cut : CutParts) → IsStrictlyIncreasing (map (λ t. t.var.0) (row_of_cut cut).terms) }
-    ensures cost { (lib : LibraryParts) (u : ℕ)
-        → IsStrictlyIncreasing (map (λ t. t.var.0) (cost_row_of lib u).terms) }
+    ensures cut { (cut : CutParts) → Ascends (row_of_cut cut) }
+    ensures cost { (lib : LibraryParts) (u : ℕ) → Ascends (cost_row_of lib u) }
+    ensures known { (known : KnownParts) → IsProblem known.problem → All Ascends (known_rows known) }
 {}
 
 /// Where nothing is free, a row is refuted exactly where the one vector of the cube doesn't meet

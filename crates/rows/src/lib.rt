@@ -15,6 +15,8 @@
 //! `reserve` take memory.
 #![tactic(auto)]
 
+mod activity;
+mod by_name;
 mod closing;
 mod cost;
 mod cube;
@@ -28,12 +30,10 @@ mod quiet_cubes;
 mod row;
 mod together_of;
 
-pub use closing::fix_forced;
 pub use cost::{member_cost, variable_count};
 pub use cube::Cube;
 pub use cut::{CUTS, CutList, CutRow};
-pub use forcing::forces;
-pub use judge::{greatest, has, refuted};
+pub use judge::{fix_forced, forces, greatest, has, refuted, unmet};
 pub use known::{Known, Pair, Reason, RowRef, Trace};
 pub use problem::Problem;
 pub use quiet_cubes::quiet;

@@ -1,90 +1,58 @@
-// Whether a cube is quiet for what is known: no row is refuted there or forces.
-ghost use Rattle.std.specs.Prelude.{◌≡◌, ◌↔◌, IsTrue, map, take, option_map, option_to_list};
-ghost use Rattle.std.specs.List.{list_all};
-ghost use Rattle.rows.specs.Row.{row_of_cut};
-ghost use Rattle.rows.specs.Activity.{is_quiet_at};
-ghost use Rattle.rows.specs.BaseRows.{cost_row_of};
-ghost use Rattle.rows.specs.Known.{parts_of, known_rows, IsQuiet};
+// The rows that are known, by number, and whether all of them are quiet in a cube.
+ghost use Rattle.std.specs.Prelude.{◌≡◌, ◌<◌, ◌↔◌, min, IsTrue, IfSome, length, slice_get};
+ghost use Rattle.rows.specs.Problem.{IsProblem};
+ghost use Rattle.rows.specs.Known.{parts_of, has_row, row_at, known_rows, IsQuiet};
+ghost use Rattle.rows.specs.Inner.Quiet.{is_quiet_at};
 
-use crate::cost::greatest_of_cost;
+use crate::by_name::{forced_by, room_in};
 use crate::cube::Cube;
-use crate::cut::{CutList, CutRow};
-use crate::forcing::{forced_by_cost, forced_by_cut, forced_by_row};
-use crate::judge::{greatest_of_cut, greatest_of_row};
-use crate::known::Known;
-use crate::row::Row;
-use arch_model::Library;
+use crate::known::{Known, RowRef};
 
-// Whether a row is quiet in a cube.
-fn row_is_quiet(row: &Row, cube: &Cube) -> bool
-    ensures { result ≡ is_quiet_at cube.now row.now }
-{
-    let room = greatest_of_row(row, cube) - row.least();
-    if room < 0 {
-        return false;
+impl Known<'_> {
+    // How many of its cuts are known.
+    fn cut_count(&self) -> u32
+        ensures { result ≡ min self.now.upto (length self.now.cuts.now.cuts) }
+    {
+        self.upto.min(self.cuts.len())
     }
-    forced_by_row(row, cube, room).is_none()
-}
 
-// The same for a cut.
-fn cut_is_quiet(cut: &CutRow, cube: &Cube) -> bool
-    ensures { result ≡ is_quiet_at cube.now (row_of_cut cut.now) }
-{
-    let room = greatest_of_cut(cut, cube) - cut.least();
-    if room < 0 {
-        return false;
+    /// How many rows are known.
+    pub fn row_count(&self) -> usize
+        ensures count { result ≡ length (known_rows (parts_of self.now)) }
+        ensures problem { IsProblem self.now.problem.now }
+    {
+        let cost = if self.bound.is_some() { 1 } else { 0 };
+        self.problem.base().len() + self.cut_count() as usize + cost
     }
-    forced_by_cut(cut, cube, room).is_none()
-}
 
-// The same for the cost row of a bound.
-fn cost_is_quiet(lib: &Library, bound: u64, cube: &Cube) -> bool
-    ensures { result ≡ is_quiet_at cube.now (cost_row_of lib.now bound) }
-{
-    let room = greatest_of_cost(lib, cube) - (1 - bound as i128);
-    if room < 0 {
-        return false;
-    }
-    forced_by_cost(lib, cube, room).is_none()
-}
-
-// Whether all rows of a list are quiet.
-fn rows_are_quiet(rows: &[Row], cube: &Cube) -> bool
-    ensures { result ≡ list_all (is_quiet_at cube.now) rows.now }
-{
-    rows.iter().all(|row| row_is_quiet(row, cube))
-}
-
-// Whether the first n cuts of a list are quiet.
-fn cuts_are_quiet(cuts: &CutList, n: u32, cube: &Cube) -> bool
-    ensures { result ≡ list_all (is_quiet_at cube.now) (map row_of_cut (take n cuts.now.cuts)) }
-{
-    for j in 0..n.min(cuts.len()) {
-        if !cut_is_quiet(&cuts.get(j), cube) {
-            return false;
+    /// The name of the known row of a number: base rows come first, then cuts, then the cost row.
+    pub fn row_name(&self, k: usize) -> RowRef
+        requires { k < length (known_rows (parts_of self.now)) }
+        ensures row { row_at (parts_of self.now) result ≡ slice_get (known_rows (parts_of self.now)) k }
+        ensures there { IsTrue (has_row (parts_of self.now) result) }
+    {
+        let base = self.problem.base().len();
+        let cuts = self.cut_count() as usize;
+        if k < base {
+            RowRef::Base(k as u32)
+        } else if k - base < cuts {
+            RowRef::Cut((k - base) as u32)
+        } else {
+            RowRef::Cost
         }
     }
-    true
 }
 
-// Whether the cost row is quiet, where there is one.
-fn bound_is_quiet(known: &Known, cube: &Cube) -> bool
-    ensures { result ≡ list_all (is_quiet_at cube.now)
-        (option_to_list (option_map (cost_row_of known.now.problem.now.library) known.now.bound)) }
+// Whether a row is quiet in a cube.
+fn row_is_quiet(known: &Known, r: RowRef, cube: &Cube) -> bool
+    requires { IsTrue (has_row (parts_of known.now) r) }
+    ensures { IfSome (row_at (parts_of known.now) r) (λ row. result ≡ is_quiet_at cube.now row) }
 {
-    match known.bound {
-        Some(bound) => cost_is_quiet(known.problem.library(), bound, cube),
-        None => true,
+    let room = room_in(known, r, cube);
+    if room < 0 {
+        return false;
     }
-}
-
-// Whether all rows that are known are quiet.
-fn known_is_quiet(known: &Known, cube: &Cube) -> bool
-    ensures { result ≡ list_all (is_quiet_at cube.now) (known_rows (parts_of known.now)) }
-{
-    let base = rows_are_quiet(known.problem.base(), cube);
-    let cuts = base && cuts_are_quiet(known.cuts, known.upto, cube);
-    cuts && bound_is_quiet(known, cube)
+    forced_by(known, r, cube, room).is_none()
 }
 
 /// Whether a cube is quiet: no base row, no cut that is known and, where there is a bound, no cost
@@ -92,5 +60,10 @@ fn known_is_quiet(known: &Known, cube: &Cube) -> bool
 pub fn quiet(known: &Known, cube: &Cube) -> bool
     ensures { IsTrue result ↔ IsQuiet (parts_of known.now) cube.now }
 {
-    known_is_quiet(known, cube)
+    for k in 0..known.row_count() {
+        if !row_is_quiet(known, known.row_name(k), cube) {
+            return false;
+        }
+    }
+    true
 }

@@ -1,14 +1,13 @@
 ghost use Rattle.std.specs.Prelude.{◌≡◌, ◌<◌, ◌≤◌, [], IfOk};
 ghost use Rattle.rows.specs.Row.{IsSized};
 
+use crate::activity::{End, activity_of_row};
 use crate::cube::Cube;
 use crate::cut::{CutList, CutRow};
-use crate::forcing::forces_of_row;
-use crate::judge::greatest_of_row;
 use crate::known::{Known, Pair, Reason, RowRef, Trace};
 use crate::problem::Problem;
 use crate::row::{Row, Term};
-use crate::{forces, greatest, has, quiet, refuted, together};
+use crate::{fix_forced, forces, greatest, has, quiet, refuted, together, unmet};
 use arch_model::limits::MEMBERS;
 use arch_model::{Library, Memory, Template, VarId};
 use std::alloc::Global;
@@ -85,19 +84,19 @@ fn a_cube_has_the_values_that_were_fixed(rt: HostRuntime) -> Result<(), Fail> {
 }
 
 #[test]
-fn a_row_has_its_activities_and_forces(rt: HostRuntime) -> Result<(), Fail> {
+fn a_row_has_two_activities(rt: HostRuntime) -> Result<(), Fail> {
     let row = row(rt.alloc(), 2)?;
     assert_eq!(rt; row.least(), 2);
     assert_eq!(rt; row.terms().len(), 2);
     let whole = Cube::whole();
-    assert_eq!(rt; greatest_of_row(&row, &whole), 3);
-    assert_eq!(rt; forces_of_row(&row, &whole), Some((VarId(0), true)));
+    assert_eq!(rt; activity_of_row(&row, &whole, End::Greatest), 3);
+    assert_eq!(rt; activity_of_row(&row, &whole, End::Least), -2);
     let one = with(whole, VarId(0), true);
-    assert_eq!(rt; greatest_of_row(&row, &one), 3);
-    assert_eq!(rt; forces_of_row(&row, &one), Some((VarId(1), false)));
+    assert_eq!(rt; activity_of_row(&row, &one, End::Greatest), 3);
+    assert_eq!(rt; activity_of_row(&row, &one, End::Least), 1);
     let both = with(one, VarId(1), true);
-    assert_eq!(rt; greatest_of_row(&row, &both), 1);
-    assert_eq!(rt; forces_of_row(&row, &both), None);
+    assert_eq!(rt; activity_of_row(&row, &both, End::Greatest), 1);
+    assert_eq!(rt; activity_of_row(&row, &both, End::Least), 1);
     let copy = row.clone()?;
     assert_eq!(rt; copy.terms(), row.terms());
     Ok(())
@@ -116,6 +115,8 @@ fn cuts_are_listed_by_number(rt: HostRuntime) -> Result<(), Fail> {
     assert_eq!(rt; cuts.get(0).coef(VarId(3)), -1);
     assert_eq!(rt; cuts.get(0).coef(VarId(4)), 0);
     assert_eq!(rt; cuts.get(1).least(), -4);
+    assert!(rt; cuts.get(0) == cut(&rt));
+    assert!(rt; cuts.get(0) != cuts.get(1));
     Ok(())
 }
 
@@ -142,9 +143,15 @@ fn a_cut_forces_its_least_free_variable(rt: HostRuntime) -> Result<(), Fail> {
     assert!(rt; !quiet(&known, &one));
     let two = with(one, VarId(2), true);
     assert_eq!(rt; forces(&known, r, &two), Some((VarId(3), false)));
-    let three = with(two, VarId(3), true);
+    assert!(rt; unmet(&known, r, &two));
+    let mut closed = one;
+    assert_eq!(rt; fix_forced(&known, r, &mut closed), Some(2));
+    assert!(rt; closed == with(two, VarId(3), false));
+    assert!(rt; !unmet(&known, r, &closed));
+    let mut three = with(two, VarId(3), true);
     assert!(rt; refuted(&known, r, &three));
     assert_eq!(rt; forces(&known, r, &three), None);
+    assert_eq!(rt; fix_forced(&known, r, &mut three), None);
     assert!(rt; !quiet(&known, &three));
     Ok(())
 }
@@ -160,6 +167,8 @@ fn only_what_is_known_has_a_row(rt: HostRuntime) -> Result<(), Fail> {
         upto: 0,
         bound: Some(0),
     };
+    assert_eq!(rt; known.row_count(), 1);
+    assert_eq!(rt; known.row_name(0), RowRef::Cost);
     assert!(rt; !has(&known, RowRef::Base(0)));
     assert!(rt; !has(&known, RowRef::Cut(0)));
     assert!(rt; has(&known, RowRef::Cost));

@@ -8,10 +8,11 @@ ghost use Rattle.rows.specs.BaseRows.{cost_row_of};
 ghost use Rattle.rows.specs.Inner.Sums.{AreWithin, AreAdded};
 ghost use Rattle.rows.specs.Reason.{AllThere, row_of_pair, terms_times, is_together};
 
+use crate::activity::{End, taken};
+use crate::by_name::least_of;
 use crate::cost::{member_cost, variable_count};
 use crate::cube::Cube;
 use crate::cut::CutRow;
-use crate::judge::{best, least_of};
 use crate::known::{Known, Pair, Reason, RowRef};
 use crate::row::Row;
 use arch_model::limits::MEMBERS;
@@ -123,7 +124,7 @@ pub fn together(known: &Known, reason: &Reason, cube: &Cube) -> bool
     let coefs = combined_coefs(known, reason);
     let mut total: i128 = 0;
     for i in 0..variable_count(known.problem.library()) {
-        total += best(cube.value(VarId(i)), coefs[i as usize]);
+        total += taken(End::Greatest, cube.value(VarId(i)), coefs[i as usize]);
     }
     total < combined_least(known, reason)
 }

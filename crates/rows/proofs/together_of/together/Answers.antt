@@ -14,13 +14,13 @@ pub loop-i-preserved : goal.loop-i-preserved
 loop-i-preserved c =
     let short : c.loop-i.i < variables (parts_of c.args.known.now) = subst (λ n. c.loop-i.i < n) (c.variable_count-i-end.ensures.count ∙ ap member_count c.library.ensures.library) c.loop-i-test.true in
     let coef : ℤ = get_or c.combined_coefs-coefs.result c.loop-i.i (pos 0) in
-    let is = best_turn coef _ c.value.result _ c.best-total.result (c.combined_coefs-coefs.ensures.small c.loop-i.i short) (c.combined_coefs-coefs.ensures.value c.loop-i.i short) c.value.ensures c.best-total.ensures in
-    let small = best_small coef c.value.result c.best-total.result (c.combined_coefs-coefs.ensures.small c.loop-i.i short) c.best-total.ensures in
+    let is = best_turn coef _ c.value.result _ c.taken-total.result (c.combined_coefs-coefs.ensures.small c.loop-i.i short) (c.combined_coefs-coefs.ensures.value c.loop-i.i short) c.value.ensures c.taken-total.ensures in
+    let small = best_small coef c.value.result c.taken-total.result (c.combined_coefs-coefs.ensures.small c.loop-i.i short) c.taken-total.ensures in
     let room : c.variable_count-i-end.result * (64 * 10 ^ 28) < 2 ^ 127 = omega (arith, c.variable_count-i-end.ensures.few) in
     record {
-      sum = range_step (combined_best (parts_of c.args.known.now) c.args.reason.now c.args.cube.now) c.loop-i.i _ c.best-total.result _ c.loop-i.invariant.sum is
-          (adds_is _ c.best-total.result c.loop-i.i c.variable_count-i-end.result (64 * 10 ^ 28) c.loop-i.invariant.small small (omega arith) c.loop-i-test.true room);
-      small = adds_small _ c.best-total.result c.loop-i.i c.variable_count-i-end.result (64 * 10 ^ 28) c.loop-i.invariant.small small (omega arith) c.loop-i-test.true room;
+      sum = range_step (combined_best (parts_of c.args.known.now) c.args.reason.now c.args.cube.now) c.loop-i.i _ c.taken-total.result _ c.loop-i.invariant.sum is
+          (adds_is _ c.taken-total.result c.loop-i.i c.variable_count-i-end.result (64 * 10 ^ 28) c.loop-i.invariant.small small (omega arith) c.loop-i-test.true room);
+      small = adds_small _ c.taken-total.result c.loop-i.i c.variable_count-i-end.result (64 * 10 ^ 28) c.loop-i.invariant.small small (omega arith) c.loop-i-test.true room;
     }
 
 pub returns : goal.returns

@@ -1,4 +1,4 @@
-use Rattle.outside.proofs.KeptLaws.{told-after_fresh, rose-after_fresh, counts-after_fresh, emptied-after_fresh}
+use Rattle.outside.proofs.KeptLaws.{told-after_fresh, rose-after_fresh, counts-after_fresh, reads-after_fresh, stay-after_fresh, alone-after_fresh, emptied-after_fresh}
 use Rattle.outside.proofs.mem_shelf.MemShelfShelf.fresh.Goals as goal
 
 pub returns-clause-empty : goal.returns-clause-empty
@@ -10,8 +10,14 @@ returns-clause-failed c = rose-after_fresh c.try_fresh.result c.args.self.now c.
 pub returns-clause-told_stays : goal.returns-clause-told_stays
 returns-clause-told_stays c = told-after_fresh c.args.self.now c.try_fresh.new.self c.args.name.now c.try_fresh.ensures.after
 
-pub returns-clause-reads_never_fall : goal.returns-clause-reads_never_fall
-returns-clause-reads_never_fall c = λ other. (counts-after_fresh c.args.self.now c.try_fresh.new.self c.args.name.now c.try_fresh.ensures.after other).0
-
 pub returns-clause-writes_never_fall : goal.returns-clause-writes_never_fall
 returns-clause-writes_never_fall c = λ other. (counts-after_fresh c.args.self.now c.try_fresh.new.self c.args.name.now c.try_fresh.ensures.after other).1
+
+pub returns-clause-reads_stay : goal.returns-clause-reads_stay
+returns-clause-reads_stay c = reads-after_fresh c.args.self.now c.try_fresh.new.self c.args.name.now c.try_fresh.ensures.after
+
+pub returns-clause-writes_stay : goal.returns-clause-writes_stay
+returns-clause-writes_stay c = stay-after_fresh c.try_fresh.result c.args.self.now c.try_fresh.new.self c.args.name.now c.try_fresh.ensures.answers c.try_fresh.ensures.after
+
+pub returns-clause-writes_alone : goal.returns-clause-writes_alone
+returns-clause-writes_alone c = alone-after_fresh c.args.self.now c.try_fresh.new.self c.args.name.now c.try_fresh.ensures.after

@@ -1,0 +1,30 @@
+//! How likely it is that a sink is cut off from every source, enclosed between two numbers.
+//!
+//! Members fail by themselves, each at its rate. `enclose` answers a lower and an upper bound of
+//! the sink's failure mass in units of 10^-18: the two numbers that conditioning on each member in
+//! turn gives, each step rounded down for the first and up for the second, exactly as `arch_model`
+//! defines them. They hold the mass between them and are at most 2 apart for each member, and the
+//! mass is at most the sink's weight.
+//!
+//! Conditioning (the textbook's pivotal decomposition) has 2^n cases for n members. Both roundings
+//! keep a value of which both cases are the same, so the code looks only at the members that may
+//! still matter: an absent member, one that never fails, or one that lies on no path that is left
+//! makes no case, and one that always fails makes one. Where the failed members part the sink the
+//! value is 10^18, and where all that may still fail wouldn't part it, it is 0. It takes no memory:
+//! the sets lie on the stack, and a call is nested at most once for each member that may fail, of
+//! which a library has at most 64.
+//!
+//! Stands on `arch_model` and `paths`.
+#![tactic(auto)]
+
+mod between;
+mod conditioning;
+mod enclosing;
+mod mixing;
+mod network;
+mod undecided;
+
+pub use enclosing::enclose;
+
+#[cfg(test)]
+mod tests;
