@@ -5,7 +5,8 @@ use Rattle.std.proofs.lemmas.Bool.{eqb-true}
 use Rattle.std.proofs.lemmas.List.{append-nil}
 use Rattle.std.proofs.Math.Nat.{pow-suc}
 use Rattle.arch_model.specs.declared.limits.TheConstants.{MEMBERS, FAILING}
-use Rattle.arch_model.specs.Set.{Set, has, members_from, members_below}
+use Rattle.arch_model.specs.Set.{Set, has, members_below}
+use Rattle.arch_model.specs.Inner.Sets.{members_from}
 use Rattle.arch_model.specs.Member.{is_in}
 use Rattle.arch_model.proofs.Members.{and_left, and_right, and_both, or_cases, is_in-filter, is_in-range, is_in-members}
 use Rattle.cut_sets.specs.Inner.Upcoming.{NetworkParts, candidates_from, sets_beyond, sets_after, AreChosen, steps_after}

@@ -6,7 +6,8 @@ use Rattle.arch_model.specs.declared.limits.TheConstants.{MEMBERS, COMPONENTS}
 use Rattle.arch_model.specs.declared.template.Edge.{Edge}
 use Rattle.arch_model.specs.Parts.{LibraryParts, ArchitectureParts}
 use Rattle.arch_model.specs.Architecture.{IsArchitecture}
-use Rattle.arch_model.specs.Set.{Set, has, empty, union, minus, members_from, members_below}
+use Rattle.arch_model.specs.Set.{Set, has, empty, union, minus, members_below}
+use Rattle.arch_model.specs.Inner.Sets.{members_from}
 use Rattle.std.specs.List.{range_with_len}
 use Rattle.arch_model.proofs.NextMember.{members_first, members_none}
 use Rattle.arch_model.specs.Member.{is_in, member_count}

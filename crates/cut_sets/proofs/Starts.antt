@@ -6,7 +6,8 @@ use Rattle.std.proofs.lemmas.List.{append-nil}
 use Rattle.arch_model.specs.declared.limits.TheConstants.{MEMBERS, FAILING}
 use Rattle.arch_model.specs.Parts.{LibraryParts, ArchitectureParts}
 use Rattle.arch_model.specs.Library.{IsLibrary}
-use Rattle.arch_model.specs.Set.{Set, has, empty, members_from, members_below}
+use Rattle.arch_model.specs.Set.{Set, has, empty, members_below}
+use Rattle.arch_model.specs.Inner.Sets.{members_from}
 use Rattle.arch_model.specs.Member.{is_in, is_present, fail_of, member_count, member_numbers, present_members}
 use Rattle.arch_model.specs.Path.{parts}
 use Rattle.arch_model.specs.Weight.{product_of}

@@ -12,15 +12,8 @@ use Rattle.arch_model.specs.Parts.{LibraryParts, ArchitectureParts}
 use Rattle.arch_model.specs.Architecture.{present_edges}
 use Rattle.arch_model.specs.Path.{live_edges, joins}
 use Rattle.arch_model.proofs.Members.{and_left, and_right, and_both, or_left, or_right, or_cases}
+use Rattle.arch_model.proofs.Present.{chosen_from, any_chosen}
 use Rattle.redundancy_cut.specs.CutRow.{is_edge_where}
-
--- the edges whose numbers, from b on, are chosen
-abbrev pub chosen_from : (ℕ → Bool) → ℕ → List Edge → List Edge
-chosen_from s b xs = map (λ p. p.1) (filter (λ p. s p.0) (enumerate_from b xs))
-
-any_step : (q : Edge → Bool) (s : ℕ → Bool) (b : ℕ) (x : Edge) (xs : List Edge) → list_any q (chosen_from s b (x ∷ xs)) ≡ ((s b && q x) || list_any q (chosen_from s (b + 1) xs))
-any_step q s b x xs = elim (s b) as (λ v. list_any q (map (λ (p : ℕ × Edge). p.1) (cond v ((b, x) ∷ filter (λ (p : ℕ × Edge). s p.0) (enumerate_from (b + 1) xs)) (filter (λ (p : ℕ × Edge). s p.0) (enumerate_from (b + 1) xs))))
-    ≡ ((v && q x) || list_any q (chosen_from s (b + 1) xs))) [ true ↦ refl | false ↦ refl ]
 
 -- an edge that is chosen and passes a test
 pub record EdgeAt (q : Edge → Bool) (s : ℕ → Bool) (b : ℕ) (xs : List Edge) : Type 0 where
@@ -32,7 +25,7 @@ pub record EdgeAt (q : Edge → Bool) (s : ℕ → Bool) (b : ℕ) (xs : List Ed
 
 pub edge_found : (q : Edge → Bool) (s : ℕ → Bool) (b : ℕ) (xs : List Edge) → list_any q (chosen_from s b xs) ≡ true → EdgeAt q s b xs
 edge_found q s b [] h = absurd (let e : false ≡ true = h in cc)
-edge_found q s b (x ∷ xs) h = elim (or_cases (s b && q x) (list_any q (chosen_from s (b + 1) xs)) (sym (any_step q s b x xs) ∙ h)) [
+edge_found q s b (x ∷ xs) h = elim (or_cases (s b && q x) (list_any q (chosen_from s (b + 1) xs)) (sym (any_chosen q s b x xs) ∙ h)) [
   | inl here ↦ record {
     number = 0;
     edge = x;
@@ -56,10 +49,10 @@ edge_there q s b [] k edge at on h = absurd (let e : None ≡ Some edge = at in 
 edge_there q s b (x ∷ xs) zero edge at on h =
     let same : x ≡ edge = cc in
     let e : b ≡ b + 0 = omega arith in
-    any_step q s b x xs ∙ or_left (s b && q x) (list_any q (chosen_from s (b + 1) xs)) (and_both (s b) (q x) (ap s e ∙ on) (ap q same ∙ h))
+    any_chosen q s b x xs ∙ or_left (s b && q x) (list_any q (chosen_from s (b + 1) xs)) (and_both (s b) (q x) (ap s e ∙ on) (ap q same ∙ h))
 edge_there q s b (x ∷ xs) (suc k) edge at on h =
     let e : (b + 1) + k ≡ b + suc k = omega arith in
-    any_step q s b x xs ∙ or_right (s b && q x) (list_any q (chosen_from s (b + 1) xs)) (edge_there q s (b + 1) xs k edge at (ap s e ∙ on) h)
+    any_chosen q s b x xs ∙ or_right (s b && q x) (list_any q (chosen_from s (b + 1) xs)) (edge_there q s (b + 1) xs k edge at (ap s e ∙ on) h)
 
 module _ (lib : LibraryParts) (arch : ArchitectureParts) (failed : ℕ → Bool) where
   -- an edge that is present and not failed, from a to b

@@ -17,9 +17,6 @@ use Rattle.redundancy_cut.proofs.NumberSets.{has-set_of_numbers, in_range}
 abbrev pub passing : (ℕ → Bool) → ℕ → List ℕ
 passing p i = filter p (range_with_len 0 i)
 
-one_kept : (b : Bool) (p : ℕ → Bool) (i : ℕ) → p i ≡ b → filter p (i ∷ []) ≡ cond b (i ∷ []) []
-one_kept b p i e = ap (λ c. cond c (i ∷ []) []) e
-
 pub passing_more : (p : ℕ → Bool) (i : ℕ) → passing p (i + 1) ≡ passing p i ++ cond (p i) (i ∷ []) []
 passing_more p i =
     ap (λ n. filter p (range_with_len 0 n)) (add-one i) ∙ ap (filter p) (range_more 0 i i (omega arith)) ∙ filter-append p (range_with_len 0 i) (i ∷ [])
@@ -102,9 +99,6 @@ none_passed i = ap (λ l. fold put empty l) (pass_none (range_with_len 0 i))
 
 pub one_done : (p : ℕ → Bool) (i n : ℕ) (row : CutParts) → row ≡ row_so_far p (λ _. false) (pos 1) i → i ≡ n → row ≡ one_of (passing p n)
 one_done p i n row e same = e ∙ (λ j. record { plus = passed p (same j); minus = none_passed i j; least = pos 1 })
-
-pub either_done : (p q : ℕ → Bool) (least : ℤ) (i n : ℕ) (row : CutParts) → row ≡ row_so_far p q least i → i ≡ n → row ≡ row_so_far p q least n
-either_done p q least i n row e same = e ∙ ap (row_so_far p q least) same
 
 -- counts
 pub count_yes : (p : ℕ → Bool) (i count after : ℕ) → count ≡ length (passing p i) → p i ≡ true → after ≡ count + 1 → after ≡ length (passing p (i + 1))

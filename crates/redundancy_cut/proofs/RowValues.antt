@@ -61,9 +61,6 @@ says cut x p m e h = subst (λ (z : ℤ). cut.least ≤ℤ z) e h
 none_in_empty : (x : ℕ → Bool) → chosen_in empty x ≡ 0
 none_in_empty x = none_passes (λ v. has empty v && x v) (range_with_len 0 MEMBERS) (λ v h. ap (λ b. b && x v) (has-empty v))
 
-never_both : (v : ℕ) (b : Bool) → b ≡ true → has empty v ≡ false
-never_both v b h = has-empty v
-
 one_value : (members : List ℕ) (x : ℕ → Bool) → value_of (row_of_cut (one_of members)).terms x ≡ pos (chosen_in (set_of_numbers members) x) -ℤ pos 0
 one_value members x =
     row_value (one_of members) (λ v h. has-empty v) x ∙ ap (λ n. pos (chosen_in (set_of_numbers members) x) -ℤ pos n) (none_in_empty x)

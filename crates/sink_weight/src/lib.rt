@@ -2,17 +2,19 @@
 //!
 //! The weight of a sink is the sum of the products of all its minimal cut sets, in units of
 //! 10^-18. Under independent failures it bounds the probability that the sink is parted from all
-//! sources from above (Boole's bound, textbook). `weight` answers it exactly, and `heaviest` the
-//! minimal cut set of greatest product. Neither takes memory: both go once over the minimal cut
-//! sets of positive product, and keep none but the best.
+//! sources from above (Boole's bound, textbook). `weight` answers it exactly, `heaviest` the minimal
+//! cut set of greatest product, and `weigh` both in one pass. None takes memory: each goes once over
+//! the minimal cut sets of positive product, and keeps none but the best.
 //!
 //! Stands on `cut_sets`.
 #![tactic(auto)]
 
 mod heaviest_of;
+mod one_pass;
 mod weighing;
 
 pub use heaviest_of::heaviest;
+pub use one_pass::{Weighed, weigh};
 pub use weighing::weight;
 
 #[cfg(test)]

@@ -1,7 +1,7 @@
 // Weights and heaviest sets of small networks, worked out by hand.
 ghost use Rattle.arch_model.specs.Name.{IsTypeName};
 
-use crate::{heaviest, weight};
+use crate::{heaviest, weigh, weight};
 use arch_model::{
     Architecture, CompId, CompSet, Component, Edge, EdgeId, EdgeSet, Library, LinkRow, Name, Role,
     Template, TypeRow, VarId, fits, is_library,
@@ -197,6 +197,9 @@ fn expect(
         (None, None) => {}
         _ => assert!(rt; false),
     }
+    let both = weigh(rt.alloc(), lib, arch, CompId(sink));
+    assert_eq!(rt; both.weight, weighs);
+    assert_eq!(rt; both.heaviest.is_some(), set.is_some());
 }
 
 #[test]

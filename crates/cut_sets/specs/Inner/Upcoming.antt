@@ -4,7 +4,8 @@ use Rattle.arch_model.specs.declared.sets.VarId.{VarId}
 use Rattle.arch_model.specs.declared.limits.TheConstants.{MEMBERS, FAILING}
 use Rattle.arch_model.specs.Parts.{LibraryParts, ArchitectureParts}
 use Rattle.arch_model.specs.Architecture.{IsArchitecture}
-use Rattle.arch_model.specs.Set.{Set, has, members_from}
+use Rattle.arch_model.specs.Set.{Set, has}
+use Rattle.arch_model.specs.Inner.Sets.{members_from}
 use Rattle.arch_model.specs.Member.{member_count, is_present, fail_of}
 use Rattle.arch_model.specs.CutSet.{nonempty_sublists, is_minimal_cut_set}
 use Rattle.arch_model.specs.Weight.{product_of}

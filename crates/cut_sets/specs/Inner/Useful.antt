@@ -4,7 +4,8 @@ use Rattle.std.specs.Option.{option_map_or}
 use Rattle.arch_model.specs.Set.{Set, has}
 use Rattle.arch_model.specs.Parts.{LibraryParts, ArchitectureParts}
 use Rattle.arch_model.specs.Member.{is_in}
-use Rattle.arch_model.specs.Path.{is_source, is_up, live_edges, joins, LeadsTo, IsWalk}
+use Rattle.arch_model.specs.Path.{is_source, is_up, live_edges, joins, LeadsTo}
+use Rattle.arch_model.specs.Inner.Walks.{IsWalk}
 use Rattle.cut_sets.specs.declared.useful.Sides.{Sides}
 
 module _ (lib : LibraryParts) (arch : ArchitectureParts) where

@@ -1,0 +1,4 @@
+pub mod FirstCut
+pub mod ChosenSteps
+pub mod KindLaws
+pub mod Verdicts
