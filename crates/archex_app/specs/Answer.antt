@@ -1,11 +1,9 @@
--- What a run answers: which bytes it read, which text it printed, and what that says.
+-- What a printed text shows of the bytes of a library.
 use Rattle.std.specs.Prelude.{◌≡◌, ℕ, Option, List, ◌++◌, ◌⊎◌, Ok, Err, IfSome}
 use Rattle.arch_model.specs.Admissible.{MeetsPatterns}
 use Rattle.arch_model.specs.Parts.{LibraryParts, ArchitectureParts}
-use Rattle.outside.specs.Faults.{Rose}
 use Rattle.outside.specs.Told.{Appends}
 use Rattle.lib_read.specs.LibraryOf.{library_of}
-use Rattle.archex_app.specs.Words.{AskToSolve, RefusesWords}
 use Rattle.archex_app.specs.Cheapest.{IsCheapest}
 use Rattle.archex_app.specs.Report.{optimal_text, infeasible_text}
 use Rattle.archex_app.specs.Refusal.{refused_library_text}
@@ -36,29 +34,19 @@ pub record ShowsRefusal (bytes text : List ℕ) : Type 0 where
 abbrev pub ShowsAnswer : List ℕ → List ℕ → Type 0
 ShowsAnswer bytes text = ShowsCheapest bytes text ⊎ (ShowsInfeasible bytes text ⊎ ShowsRefusal bytes text)
 
--- the text that is due shows a fact of the bytes of the library that the words name: those that the shelf tells, or where it tells none, some bytes, of which nothing more is said
-pub record IsDue (Shows : List ℕ → List ℕ → Type 0) (words : List (List ℕ)) (told : List ℕ → Option (List ℕ)) (text : List ℕ) : Type 0 where
-  pub name : List ℕ
-  pub asked : AskToSolve words name
+-- a text was printed whole that shows a fact of a file's bytes: those that the shelf tells, or where it tells none, some bytes, of which nothing more is said
+pub record Prints (Shows : List ℕ → List ℕ → Type 0) (told before now : Option (List ℕ)) : Type 0 where
   pub bytes : List ℕ
-  pub read : IfSome (told name) (λ all. bytes ≡ all)
-  pub shows : Shows bytes text
-
--- that text was printed, whole
-pub record Prints (Shows : List ℕ → List ℕ → Type 0) (words : List (List ℕ)) (told : List ℕ → Option (List ℕ)) (before now : Option (List ℕ)) : Type 0 where
+  pub read : IfSome told (λ all. bytes ≡ all)
   pub text : List ℕ
-  pub due : IsDue Shows words told text
+  pub shows : Shows bytes text
   pub printed : Appends before now text
 
--- the front of a text that is due was printed: of the refusal of the words, or of an answer
-pub record PrintsFront (words : List (List ℕ)) (told : List ℕ → Option (List ℕ)) (before now : Option (List ℕ)) : Type 0 where
+-- the front of such a text was printed
+pub record PrintsFront (Shows : List ℕ → List ℕ → Type 0) (told before now : Option (List ℕ)) : Type 0 where
+  pub bytes : List ℕ
+  pub read : IfSome told (λ all. bytes ≡ all)
   pub front : List ℕ
   pub rest : List ℕ
-  pub due : RefusesWords words (front ++ rest) ⊎ IsDue ShowsAnswer words told (front ++ rest)
+  pub shows : Shows bytes (front ++ rest)
   pub printed : Appends before now front
-
--- a read of the library that the words name failed in this run
-pub record ReadFailed (words : List (List ℕ)) (before now : List ℕ → ℕ) : Type 0 where
-  pub name : List ℕ
-  pub asked : AskToSolve words name
-  pub rose : Rose (before name) (now name)

@@ -4,14 +4,14 @@ use Rattle.arch_model.specs.Admissible.{MeetsPatterns}
 use Rattle.arch_model.specs.Parts.{LibraryParts, ArchitectureParts}
 use Rattle.lib_read.specs.LibraryOf.{library_of}
 use Rattle.archex_app.specs.declared.status.Status.{Status}
-use Rattle.archex_app.specs.declared.status.TheConstants as constants
+use Rattle.archex_app.specs.Status.{status_of, done, infeasible, library_refused, no_memory}
 
 -- a library that was read is solved, unless there was no memory: Optimal where an architecture meets its patterns, Infeasible where none does
 pub record Solves (lib : LibraryParts) (status : Status) : Type 0 where
-  pub ends : (status ≡ constants.Status.OPTIMAL) ⊎ ((status ≡ constants.Status.INFEASIBLE) ⊎ (status ≡ constants.Status.NO_MEMORY))
-  pub optimal : status ≡ constants.Status.OPTIMAL → (arch : ArchitectureParts) × MeetsPatterns lib arch
-  pub infeasible : status ≡ constants.Status.INFEASIBLE → (arch : ArchitectureParts) → MeetsPatterns lib arch → ⊥
+  pub ends : (status ≡ status_of done) ⊎ ((status ≡ status_of infeasible) ⊎ (status ≡ status_of no_memory))
+  pub optimal : status ≡ status_of done → (arch : ArchitectureParts) × MeetsPatterns lib arch
+  pub none_meets : status ≡ status_of infeasible → (arch : ArchitectureParts) → MeetsPatterns lib arch → ⊥
 
 -- bytes that are a library are solved, and others are refused, unless there was no memory
 abbrev pub Completes : List ℕ → Status → Type 0
-Completes bytes status = MatchResult (library_of bytes) (λ lib. Solves lib status) (λ _. (status ≡ constants.Status.REFUSED_LIBRARY) ⊎ (status ≡ constants.Status.NO_MEMORY))
+Completes bytes status = MatchResult (library_of bytes) (λ lib. Solves lib status) (λ _. (status ≡ status_of library_refused) ⊎ (status ≡ status_of no_memory))

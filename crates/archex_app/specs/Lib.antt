@@ -1,8 +1,11 @@
+pub mod Status
 pub mod Words
 pub mod Cheapest
 pub mod Report
 pub mod Refusal
+pub mod Due
+pub mod ComesTo
+pub mod Run
 pub mod Answer
-pub mod Status
 pub mod Complete
 pub mod Inner

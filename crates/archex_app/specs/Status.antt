@@ -1,7 +1,48 @@
--- The numbers with which a run ends.
-use Rattle.std.specs.Prelude.{[], ◌∷◌, Contains}
+-- How a run ends, and the numbers that say it.
+use Rattle.std.specs.Prelude.{ℕ, [], ◌∷◌, Contains}
 use Rattle.archex_app.specs.declared.status.Status.{Status}
 
--- there is no other
+-- how a run may end
+pub data Ending : Type 0 where
+  -- the command did what it is for: `solve` printed a cheapest architecture
+  done : Ending
+  -- no architecture meets the patterns and bounds
+  infeasible : Ending
+  -- the limit of branchings was spent before the search was over
+  node_limit : Ending
+  -- the library file is no library
+  library_refused : Ending
+  -- the words are no command
+  words_refused : Ending
+  -- a read of a file failed
+  read_fault : Ending
+  -- a write of a file or of the text failed
+  write_fault : Ending
+  -- there was no memory
+  no_memory : Ending
+  -- the checker says no
+  log_refused : Ending
+  -- the architecture file is no architecture of the library
+  architecture_refused : Ending
+
+-- the number of each, with which the program ends
+abbrev pub number_of : Ending → ℕ
+number_of done = 0
+number_of infeasible = 1
+number_of node_limit = 2
+number_of library_refused = 3
+number_of words_refused = 4
+number_of read_fault = 5
+number_of write_fault = 6
+number_of no_memory = 7
+number_of log_refused = 8
+number_of architecture_refused = 9
+
+-- as a status
+abbrev pub status_of : Ending → Status
+status_of ending = record { 0 = number_of ending }
+
+-- the statuses with which a run ends today; there is no other
 abbrev pub IsStatus : Status → Type 0
-IsStatus status = Contains (0 ∷ 1 ∷ 3 ∷ 4 ∷ 5 ∷ 6 ∷ 7 ∷ []) status.0
+IsStatus status =
+    Contains (number_of done ∷ number_of infeasible ∷ number_of library_refused ∷ number_of words_refused ∷ number_of read_fault ∷ number_of write_fault ∷ number_of no_memory ∷ []) status.0

@@ -39,6 +39,19 @@ command_of (command ∷ args) = if bytes_eq command (codes "solve") then solve_o
 abbrev pub AskToSolve : List (List ℕ) → List ℕ → Type 0
 AskToSolve words name = command_of words ≡ Ok (solve name)
 
+-- the files that a command reads
+abbrev pub files_read : Asked → List (List ℕ)
+files_read (solve lib) = lib ∷ []
+
+-- the files that a command writes
+abbrev pub files_written : Asked → List (List ℕ)
+files_written (solve lib) = []
+
+-- those of the command that words are; of refused words none
+abbrev pub files_of : (Asked → List (List ℕ)) → Result Asked ℕ → List (List ℕ)
+files_of files (Ok asked) = files asked
+files_of files (Err place) = []
+
 -- the text that refuses words for the one at a place
 abbrev pub refused_words_text : ℕ → List ℕ
 refused_words_text place = codes "refused words " ++ decimal place ++ codes "\n"

@@ -16,6 +16,8 @@
 //! and on nothing of the system.
 #![tactic(auto)]
 
+mod library;
+mod outcome;
 mod printing;
 mod reading;
 mod refusal;

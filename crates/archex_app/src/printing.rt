@@ -12,6 +12,7 @@ pub fn print_all<O: Sink>(out: &mut O, text: &[u8]) -> Result<(), Failed>
         × Appends (O.told out.old) (O.told out.new) front) }
     ensures failed { OnErr result (Rose (O.faults out.old) (O.faults out.new)) }
     ensures never_falls { O.faults out.old ≤ O.faults out.new }
+    ensures stays { OnOk result (O.faults out.new ≡ O.faults out.old) }
 {
     let mut printed = 0;
     while printed < text.len() {

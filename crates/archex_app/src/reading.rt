@@ -1,6 +1,6 @@
 // Reading a file whole, up to a limit.
-ghost use Rattle.std.specs.Prelude.{◌≡◌, ℕ, ◌+◌, ◌≤◌, ◌<◌, List, take, length, IfSome, IfOk, OnOk, IsErrOf};
-ghost use Rattle.outside.specs.Faults.{Rose};
+ghost use Rattle.std.specs.Prelude.{◌≡◌, ℕ, ◌+◌, ◌≤◌, ◌<◌, List, [], ◌∷◌, take, length, IfSome, IfOk, OnOk, IsErrOf};
+ghost use Rattle.outside.specs.Faults.{Rose, Stay, ChangesOnly};
 ghost use Rattle.archex_app.specs.Inner.Reading.{IsFront, IsWhole};
 
 use lib_read::LARGEST;
@@ -53,7 +53,11 @@ fn read_piece<F: Shelf>(shelf: &mut F, name: &str, bytes: &mut Vec<u8>) -> Resul
 
     ensures told_stays { (other : List ℕ) → F.told shelf.new other ≡ F.told shelf.old other }
     ensures reads_never_fall { (other : List ℕ) → F.read_faults shelf.old other ≤ F.read_faults shelf.new other }
-    ensures writes_never_fall { (other : List ℕ) → F.write_faults shelf.old other ≤ F.write_faults shelf.new other }
+    ensures reads_stay { OnOk result (Stay (F.read_faults shelf.old) (F.read_faults shelf.new)) }
+    ensures reads_stay_for_memory { IsErrOf result ReadError.Memory
+        → Stay (F.read_faults shelf.old) (F.read_faults shelf.new) }
+    ensures reads_alone { ChangesOnly (name.now ∷ []) (F.read_faults shelf.old) (F.read_faults shelf.new) }
+    ensures writes_stay { Stay (F.write_faults shelf.old) (F.write_faults shelf.new) }
 {
     let mut piece = [0; PIECE];
     let room = PIECE.min(READ_LIMIT - bytes.len());
@@ -71,7 +75,11 @@ pub fn read_file<F: Shelf>(alloc: Global, shelf: &mut F, name: &str) -> Result<V
 
     ensures told_stays { (other : List ℕ) → F.told shelf.new other ≡ F.told shelf.old other }
     ensures reads_never_fall { (other : List ℕ) → F.read_faults shelf.old other ≤ F.read_faults shelf.new other }
-    ensures writes_never_fall { (other : List ℕ) → F.write_faults shelf.old other ≤ F.write_faults shelf.new other }
+    ensures reads_stay { OnOk result (Stay (F.read_faults shelf.old) (F.read_faults shelf.new)) }
+    ensures reads_stay_for_memory { IsErrOf result ReadError.Memory
+        → Stay (F.read_faults shelf.old) (F.read_faults shelf.new) }
+    ensures reads_alone { ChangesOnly (name.now ∷ []) (F.read_faults shelf.old) (F.read_faults shelf.new) }
+    ensures writes_stay { Stay (F.write_faults shelf.old) (F.write_faults shelf.new) }
 {
     let mut bytes = Vec::new(alloc);
     while bytes.len() < READ_LIMIT {

@@ -1,47 +1,54 @@
 // The top call.
-ghost use Rattle.std.specs.Prelude.{◌≡◌, ℕ, ◌≤◌, ◌++◌, ◌⊎◌, IsErr, List};
-ghost use Rattle.outside.specs.Faults.{Rose};
+ghost use Rattle.std.specs.Prelude.{◌≡◌, ℕ, ◌≤◌, ◌⊎◌, IsErr, List};
+ghost use Rattle.outside.specs.Faults.{Rose, Stay, ChangesOnly};
 ghost use Rattle.outside.specs.Told.{Appends};
-ghost use Rattle.archex_app.specs.Words.{texts, command_of, refused_words_text, AskToSolve, RefusesWords};
-ghost use Rattle.archex_app.specs.Status.{IsStatus};
+ghost use Rattle.archex_app.specs.Words.{texts, command_of, files_of, files_read, AskToSolve};
+ghost use Rattle.archex_app.specs.Words.{refused_words_text, RefusesWords};
+ghost use Rattle.archex_app.specs.Status.{IsStatus, status_of, done, infeasible, library_refused, words_refused};
+ghost use Rattle.archex_app.specs.Status.{read_fault, write_fault, no_memory};
+ghost use Rattle.archex_app.specs.Run.{Runs, seen};
 ghost use Rattle.archex_app.specs.Complete.{Completes};
-ghost use Rattle.archex_app.specs.Answer.{ShowsCheapest, ShowsInfeasible, ShowsRefusal, Prints, PrintsFront};
-ghost use Rattle.archex_app.specs.Answer.{ReadFailed};
+ghost use Rattle.archex_app.specs.Answer.{ShowsCheapest, ShowsInfeasible, ShowsRefusal, ShowsAnswer, Prints, PrintsFront};
+ghost use Rattle.archex_app.specs.Inner.Outcome.{Printed};
 
-use crate::printing::print_all;
-use crate::reading::ReadError;
-use crate::solve::solve;
+use crate::outcome::print;
+use crate::solve::solve_library;
 use crate::status::Status;
 use crate::words::{WordFault, read_words};
 use outside::{Shelf, Sink};
 use std::alloc::Global;
 
-// Prints a text, and answers the status that goes with it, or that it couldn't be printed whole.
-fn print<O: Sink>(out: &mut O, text: &[u8], status: Status) -> Status
-    ensures ends { ((result ≡ status) × Appends (O.told out.old) (O.told out.new) text.now)
-        ⊎ ((result ≡ Status.WRITE_FAULT) × Rose (O.faults out.old) (O.faults out.new)
-        × ((front rest : List ℕ) × (text.now ≡ front ++ rest) × Appends (O.told out.old) (O.told out.new) front)) }
-    ensures never_falls { O.faults out.old ≤ O.faults out.new }
-{
-    match print_all(out, text) {
-        Ok(()) => status,
-        Err(_) => Status::WRITE_FAULT,
-    }
-}
-
 // Prints that the words are refused, and for which place. It takes no memory.
 fn refuse_words<O: Sink>(out: &mut O, fault: WordFault) -> Status
     requires { (1 ≤ fault.place) × (fault.place ≤ 9) }
-    ensures ends { ((result ≡ Status.REFUSED_WORDS)
-        × Appends (O.told out.old) (O.told out.new) (refused_words_text fault.place))
-        ⊎ ((result ≡ Status.WRITE_FAULT) × Rose (O.faults out.old) (O.faults out.new)
-        × ((front rest : List ℕ) × (refused_words_text fault.place ≡ front ++ rest)
-        × Appends (O.told out.old) (O.told out.new) front)) }
+    ensures printed { Printed (status_of words_refused) (refused_words_text fault.place) result
+        (O.told out.old) (O.told out.new) (O.faults out.old) (O.faults out.new) }
     ensures never_falls { O.faults out.old ≤ O.faults out.new }
 {
     let mut text = *b"refused words 0\n";
     text[14] = b'0' + fault.place as u8;
-    print(out, &text, Status::REFUSED_WORDS)
+    print(out, &text, Status::WORDS_REFUSED)
+}
+
+// Parts the words: each command is a function of its own.
+fn run_command<F: Shelf, O: Sink>(
+    alloc: Global,
+    words: &[String],
+    shelf: &mut F,
+    out: &mut O,
+) -> Status
+    ensures run { Runs (command_of (texts words.now)) result
+        (seen (F.told shelf.old) (F.read_faults shelf.old) (F.write_faults shelf.old) (O.told out.old) (O.faults out.old))
+        (seen (F.told shelf.new) (F.read_faults shelf.new) (F.write_faults shelf.new) (O.told out.new) (O.faults out.new)) }
+    ensures words_first { IsErr (command_of (texts words.now))
+        → (result ≡ status_of words_refused) ⊎ (result ≡ status_of write_fault) }
+    ensures untouched { IsErr (command_of (texts words.now)) → shelf.new ≡ shelf.old }
+    ensures unprinted { result ≡ status_of no_memory → O.told out.new ≡ O.told out.old }
+{
+    match read_words(words) {
+        Ok(command) => solve_library(alloc, command.library(), shelf, out),
+        Err(fault) => refuse_words(out, fault),
+    }
 }
 
 /// Does what the words ask, with one worker: `solve LIB` reads the library LIB from the shelf,
@@ -56,32 +63,52 @@ pub fn run_plain<F: Shelf, O: Sink>(
     shelf: &mut F,
     out: &mut O,
 ) -> Status
-    // What each status says of the bytes of LIB, of all architectures of its template, and of what
-    // was printed.
-    ensures optimal { result ≡ Status.OPTIMAL
-        → Prints ShowsCheapest (texts words.now) (F.told shelf.old) (O.told out.old) (O.told out.new) }
-    ensures infeasible { result ≡ Status.INFEASIBLE
-        → Prints ShowsInfeasible (texts words.now) (F.told shelf.old) (O.told out.old) (O.told out.new) }
-    ensures refused_library { result ≡ Status.REFUSED_LIBRARY
-        → Prints ShowsRefusal (texts words.now) (F.told shelf.old) (O.told out.old) (O.told out.new) }
-    ensures refused_words { result ≡ Status.REFUSED_WORDS
-        → (text : List ℕ) × RefusesWords (texts words.now) text × Appends (O.told out.old) (O.told out.new) text }
-    ensures read_fault { result ≡ Status.READ_FAULT
-        → ReadFailed (texts words.now) (F.read_faults shelf.old) (F.read_faults shelf.new) }
-    ensures write_fault { result ≡ Status.WRITE_FAULT → Rose (O.faults out.old) (O.faults out.new) }
-    ensures cut { result ≡ Status.WRITE_FAULT
-        → PrintsFront (texts words.now) (F.told shelf.old) (O.told out.old) (O.told out.new) }
-    ensures nothing_printed { (result ≡ Status.READ_FAULT) ⊎ (result ≡ Status.NO_MEMORY)
-        → O.told out.new ≡ O.told out.old }
+    // What is said of all commands alike: a run ends as something that its words come to, printed
+    // whole, or with a fault whose count rose, or for want of memory; and what it leaves.
+    ensures run { Runs (command_of (texts words.now)) result
+        (seen (F.told shelf.old) (F.read_faults shelf.old) (F.write_faults shelf.old) (O.told out.old) (O.faults out.old))
+        (seen (F.told shelf.new) (F.read_faults shelf.new) (F.write_faults shelf.new) (O.told out.new) (O.faults out.new)) }
 
-    // There is no other status. Refused words are refused, and a library that the shelf tells is
-    // solved or refused, where no call of the outside failed and there was memory.
-    ensures statuses { IsStatus result }
-    ensures words_first { IsErr (command_of (texts words.now))
-        → (result ≡ Status.REFUSED_WORDS) ⊎ (result ≡ Status.WRITE_FAULT) }
+    // What each status of `solve` says of the bytes of LIB, of all architectures of its template,
+    // and of what was printed.
+    ensures optimal { (name : List ℕ) → AskToSolve (texts words.now) name → result ≡ status_of done
+        → Prints ShowsCheapest (F.told shelf.old name) (O.told out.old) (O.told out.new) }
+    ensures infeasible { (name : List ℕ) → AskToSolve (texts words.now) name → result ≡ status_of infeasible
+        → Prints ShowsInfeasible (F.told shelf.old name) (O.told out.old) (O.told out.new) }
+    ensures refused_library { (name : List ℕ) → AskToSolve (texts words.now) name → result ≡ status_of library_refused
+        → Prints ShowsRefusal (F.told shelf.old name) (O.told out.old) (O.told out.new) }
+    ensures read_fault { (name : List ℕ) → AskToSolve (texts words.now) name → result ≡ status_of read_fault
+        → Rose (F.read_faults shelf.old name) (F.read_faults shelf.new name) }
+    ensures cut { (name : List ℕ) → AskToSolve (texts words.now) name → result ≡ status_of write_fault
+        → PrintsFront ShowsAnswer (F.told shelf.old name) (O.told out.old) (O.told out.new) }
+
+    // A library that the shelf tells is solved or refused, where no call of the outside failed and
+    // there was memory.
     ensures complete { (name bytes : List ℕ) → AskToSolve (texts words.now) name → F.told shelf.old name ≡ Some bytes
         → ¬ Rose (F.read_faults shelf.old name) (F.read_faults shelf.new name)
         → ¬ Rose (O.faults out.old) (O.faults out.new) → Completes bytes result }
+
+    // Refused words are refused, with the place of the first that isn't as it should be.
+    ensures refused_words { result ≡ status_of words_refused
+        → (text : List ℕ) × RefusesWords (texts words.now) text × Appends (O.told out.old) (O.told out.new) text }
+    ensures words_first { IsErr (command_of (texts words.now))
+        → (result ≡ status_of words_refused) ⊎ (result ≡ status_of write_fault) }
+
+    // There is no other status; a write fault has its cause, and with a read fault or without
+    // memory nothing was printed.
+    ensures statuses { IsStatus result }
+    ensures write_fault { result ≡ status_of write_fault → Rose (O.faults out.old) (O.faults out.new) }
+    ensures nothing_printed { (result ≡ status_of read_fault) ⊎ (result ≡ status_of no_memory)
+        → O.told out.new ≡ O.told out.old }
+
+    // Words that are refused touch no file, and a command reads its own files alone and writes
+    // none. A call of the outside that fails ends the run with the status of its kind.
+    ensures untouched { IsErr (command_of (texts words.now)) → shelf.new ≡ shelf.old }
+    ensures reads_alone { ChangesOnly (files_of files_read (command_of (texts words.now)))
+        (F.read_faults shelf.old) (F.read_faults shelf.new) }
+    ensures reads_stay { ¬ (result ≡ status_of read_fault) → Stay (F.read_faults shelf.old) (F.read_faults shelf.new) }
+    ensures writes_stay { Stay (F.write_faults shelf.old) (F.write_faults shelf.new) }
+    ensures prints_stay { ¬ (result ≡ status_of write_fault) → O.faults out.new ≡ O.faults out.old }
 
     // What the shelf tells stays the same, and no count falls.
     ensures told_stays { (name : List ℕ) → F.told shelf.new name ≡ F.told shelf.old name }
@@ -89,13 +116,5 @@ pub fn run_plain<F: Shelf, O: Sink>(
     ensures writes_never_fall { (name : List ℕ) → F.write_faults shelf.old name ≤ F.write_faults shelf.new name }
     ensures never_falls { O.faults out.old ≤ O.faults out.new }
 {
-    let command = match read_words(words) {
-        Ok(command) => command,
-        Err(fault) => return refuse_words(out, fault),
-    };
-    match solve(alloc, shelf, command.library()) {
-        Ok(outcome) => print(out, outcome.text().as_bytes(), outcome.status()),
-        Err(ReadError::Failed) => Status::READ_FAULT,
-        Err(ReadError::Memory) => Status::NO_MEMORY,
-    }
+    run_command(alloc, words, shelf, out)
 }

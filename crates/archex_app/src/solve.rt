@@ -1,85 +1,74 @@
-// From a library's name to what is to be printed.
-ghost use Rattle.std.specs.Prelude.{◌≡◌, ℕ, ◌≤◌, List, IfOk, IfSome, IsErrOf};
-ghost use Rattle.outside.specs.Faults.{Rose};
-ghost use Rattle.archex_app.specs.Inner.Outcome.{IsOutcome, text_of, status_of};
+// What `solve` does.
+ghost use Rattle.std.specs.Prelude.{◌≡◌, ℕ, ◌≤◌, List, [], ◌∷◌, Ok, IfOk};
+ghost use Rattle.outside.specs.Faults.{Stay, ChangesOnly};
+ghost use Rattle.archex_app.specs.Inner.Outcome.{IsOutcome, Settles};
+ghost use Rattle.archex_app.specs.Status.{status_of, no_memory};
+ghost use Rattle.archex_app.specs.Words.{solve};
+ghost use Rattle.archex_app.specs.ComesTo.{CommandComesTo, SolveComesTo};
+ghost use Rattle.archex_app.specs.Run.{Runs, seen};
 
-use crate::reading::{ReadError, read_file};
-use crate::refusal::refusal;
+use crate::library::library_under;
+use crate::outcome::{Outcome, Stop, finish};
 use crate::report::optimal_report;
 use crate::search::cheapest;
 use crate::status::Status;
-use arch_model::Memory;
+use arch_model::{Library, Memory};
 use binary_program::problem_of;
-use lib_read::{LibError, read_library};
-use outside::Shelf;
-use std::alloc::{AllocError, Global};
+use outside::{Shelf, Sink};
+use std::alloc::Global;
 
-/// What a library's bytes come to.
-#[derive(Drop)]
-pub enum Outcome {
-    /// An architecture of least cost, with its report.
-    Optimal(String),
-    /// No architecture meets the patterns.
-    Infeasible,
-    /// The bytes are no library, with the line that says why.
-    Refused(String),
-}
-
-impl Outcome {
-    /// The text that is due.
-    pub fn text(&self) -> &str
-        ensures { result.now ≡ text_of self.now }
-    {
-        match self {
-            Outcome::Optimal(report) => report.as_str(),
-            Outcome::Infeasible => "status infeasible\n",
-            Outcome::Refused(line) => line.as_str(),
-        }
-    }
-
-    /// The status that goes with it.
-    pub fn status(&self) -> Status
-        ensures { result.0 ≡ status_of self.now }
-    {
-        match self {
-            Outcome::Optimal(_) => Status::OPTIMAL,
-            Outcome::Infeasible => Status::INFEASIBLE,
-            Outcome::Refused(_) => Status::REFUSED_LIBRARY,
-        }
-    }
-}
-
-// What the bytes come to.
-fn decide(alloc: Global, bytes: &[u8]) -> Result<Outcome, Memory>
-    ensures { IfOk result (IsOutcome bytes.now) }
+// The report of a cheapest architecture, or that there is none.
+fn searched(alloc: Global, lib: Library) -> Result<Outcome, Memory>
+    requires unrequired { lib.requirements ≡ [] }
+    ensures { IfOk result (IsOutcome (SolveComesTo lib)) }
 {
-    let lib = match read_library(alloc, bytes) {
-        Ok(lib) => lib,
-        Err(LibError::Fault(fault)) => return Ok(Outcome::Refused(refusal(alloc, &fault)?)),
-        Err(LibError::Memory) => return Err(AllocError),
-    };
     let problem = problem_of(alloc, lib)?;
     match cheapest(alloc, &problem) {
         Some(best) => {
-            let report = optimal_report(alloc, problem.library(), best.cost, &best.architecture)?;
-            Ok(Outcome::Optimal(report))
+            let text = optimal_report(alloc, problem.library(), best.cost, &best.architecture)?;
+            Ok(Outcome {
+                status: Status::DONE,
+                text,
+            })
         }
-        None => Ok(Outcome::Infeasible),
+        None => {
+            let text = String::from_str(alloc, "status infeasible\n")?;
+            Ok(Outcome {
+                status: Status::INFEASIBLE,
+                text,
+            })
+        }
     }
 }
 
-/// Reads a library and finds its cheapest architecture.
-pub fn solve<F: Shelf>(alloc: Global, shelf: &mut F, name: &str) -> Result<Outcome, ReadError>
-    ensures outcome { IfOk result
-        (λ outcome. (bytes : List ℕ) × IfSome (F.told shelf.old name.now) (λ all. bytes ≡ all)
-        × IsOutcome bytes outcome) }
-    ensures failed { IsErrOf result ReadError.Failed
-        → Rose (F.read_faults shelf.old name.now) (F.read_faults shelf.new name.now) }
+// What `solve` comes to.
+fn come_to<F: Shelf>(alloc: Global, shelf: &mut F, name: &str) -> Result<Outcome, Stop>
+    ensures settles { Settles (CommandComesTo (F.told shelf.old) (solve name.now)) result
+        (F.read_faults shelf.old) (F.read_faults shelf.new) }
 
     ensures told_stays { (other : List ℕ) → F.told shelf.new other ≡ F.told shelf.old other }
     ensures reads_never_fall { (other : List ℕ) → F.read_faults shelf.old other ≤ F.read_faults shelf.new other }
-    ensures writes_never_fall { (other : List ℕ) → F.write_faults shelf.old other ≤ F.write_faults shelf.new other }
+    ensures reads_alone { ChangesOnly (name.now ∷ []) (F.read_faults shelf.old) (F.read_faults shelf.new) }
+    ensures writes_stay { Stay (F.write_faults shelf.old) (F.write_faults shelf.new) }
 {
-    let bytes = read_file(alloc, shelf, name)?;
-    Ok(decide(alloc, bytes.as_slice())?)
+    let lib = library_under(alloc, shelf, name)?;
+    let outcome = searched(alloc, lib)?;
+    Ok(outcome)
+}
+
+/// Does what `solve LIB` asks: reads the library, searches for an architecture of least cost among
+/// all that meet its patterns, and prints a report.
+pub fn solve_library<F: Shelf, O: Sink>(
+    alloc: Global,
+    lib: &str,
+    shelf: &mut F,
+    out: &mut O,
+) -> Status
+    ensures run { Runs (Ok (solve lib.now)) result
+        (seen (F.told shelf.old) (F.read_faults shelf.old) (F.write_faults shelf.old) (O.told out.old) (O.faults out.old))
+        (seen (F.told shelf.new) (F.read_faults shelf.new) (F.write_faults shelf.new) (O.told out.new) (O.faults out.new)) }
+    ensures unprinted { result ≡ status_of no_memory → O.told out.new ≡ O.told out.old }
+{
+    let outcome = come_to(alloc, shelf, lib);
+    finish(out, outcome)
 }

@@ -1,20 +1,21 @@
 // How a run ends.
-/// How a run ended: the number with which the program ends.
+/// How a run ended: the number with which the program ends, 0 to 9. The meaning of each number is
+/// that of `Ending` in `specs/Status.antt`, and those that the program uses have a name here.
 #[derive(Clone, Copy, Debug, PartialEq, Eq)]
 pub struct Status(pub u8);
 
 impl Status {
-    /// A cheapest architecture was printed.
-    pub const OPTIMAL: Status = Status(0);
+    /// The command did what it is for: `solve` printed a cheapest architecture.
+    pub const DONE: Status = Status(0);
     /// No architecture meets the patterns.
     pub const INFEASIBLE: Status = Status(1);
     /// The library was refused.
-    pub const REFUSED_LIBRARY: Status = Status(3);
+    pub const LIBRARY_REFUSED: Status = Status(3);
     /// The words were refused.
-    pub const REFUSED_WORDS: Status = Status(4);
-    /// A read of the library failed.
+    pub const WORDS_REFUSED: Status = Status(4);
+    /// A read of a file failed.
     pub const READ_FAULT: Status = Status(5);
-    /// The text couldn't be printed whole.
+    /// A write failed: the text couldn't be printed whole.
     pub const WRITE_FAULT: Status = Status(6);
     /// There was no memory.
     pub const NO_MEMORY: Status = Status(7);

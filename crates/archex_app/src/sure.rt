@@ -2,6 +2,7 @@
 ghost use Rattle.std.specs.Prelude.{◌≡◌, ℕ, List, Some, IsErr};
 ghost use Rattle.outside.specs.Sure.{sure_told};
 ghost use Rattle.archex_app.specs.Words.{texts, command_of, AskToSolve};
+ghost use Rattle.archex_app.specs.Status.{status_of, words_refused};
 ghost use Rattle.archex_app.specs.Complete.{Completes};
 
 use crate::run::run_plain;
@@ -18,7 +19,7 @@ pub fn run_surely(
     shelf: &mut SureShelf,
     out: &mut SureSink,
 ) -> Status
-    ensures words_first { IsErr (command_of (texts words.now)) → result ≡ Status.REFUSED_WORDS }
+    ensures words_first { IsErr (command_of (texts words.now)) → result ≡ status_of words_refused }
     ensures complete { (name bytes : List ℕ) → AskToSolve (texts words.now) name → sure_told shelf.old name
         ≡ Some bytes → Completes bytes result }
 {

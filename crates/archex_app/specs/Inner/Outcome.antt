@@ -1,24 +1,61 @@
--- For the code's own contracts: what a library's bytes come to.
-use Rattle.std.specs.Prelude.{ℕ, List, string_bytes}
-use Rattle.archex_app.specs.declared.solve.Outcome.{Outcome}
-use Rattle.archex_app.specs.declared.solve.Outcome.TheVariants.{Optimal, Infeasible, Refused}
-use Rattle.archex_app.specs.Report.{infeasible_text}
-use Rattle.archex_app.specs.Answer.{ShowsCheapest, ShowsInfeasible, ShowsRefusal}
+-- For the code's own contracts: what a command comes to before anything is printed.
+use Rattle.std.specs.Prelude.{◌≡◌, ℕ, Option, List, [], ◌++◌, ◌⊎◌, Result, Ok, Err, string_bytes, IfSome}
+use Rattle.outside.specs.Faults.{Rose, Stay}
+use Rattle.outside.specs.Told.{Appends}
+use Rattle.arch_model.specs.Parts.{LibraryParts}
+use Rattle.lib_read.specs.LibraryOf.{library_of}
+use Rattle.lib_read.specs.declared.fault.LibFault.{LibFault}
+use Rattle.archex_app.specs.declared.status.Status.{Status}
+use Rattle.archex_app.specs.declared.reading.ReadError.{ReadError}
+use Rattle.archex_app.specs.declared.reading.ReadError.TheVariants.{Memory, Failed}
+use Rattle.archex_app.specs.declared.outcome.Outcome.{Outcome}
+use Rattle.archex_app.specs.declared.outcome.Stop.{Stop}
+use Rattle.archex_app.specs.declared.outcome.Stop.TheVariants.{NoMemory, Unread, Refused}
+use Rattle.archex_app.specs.Status.{Ending, status_of, library_refused, read_fault, write_fault, no_memory}
+use Rattle.archex_app.specs.Refusal.{refused_library_text}
+use Rattle.archex_app.specs.Due.{Due, ends, unread, IsSettled}
 
--- the text that is due
-abbrev pub text_of : Outcome → List ℕ
-text_of (Optimal report) = string_bytes report
-text_of Infeasible = infeasible_text
-text_of (Refused line) = string_bytes line
+-- a stop for the same cause as a read's
+abbrev pub stop_of : ReadError → Stop
+stop_of Memory = NoMemory
+stop_of Failed = Unread
 
--- the status that goes with it
-abbrev pub status_of : Outcome → ℕ
-status_of (Optimal report) = 0
-status_of Infeasible = 1
-status_of (Refused line) = 3
+-- it may come of the run, as the way in which it ends
+pub record IsOutcome (Comes : Due → Type 0) (outcome : Outcome) : Type 0 where
+  pub ending : Ending
+  pub settled : IsSettled ending
+  pub ended_so : outcome.status ≡ status_of ending
+  pub due : Comes (ends ending [] (string_bytes outcome.text))
 
--- it is what the bytes say
-abbrev pub IsOutcome : List ℕ → Outcome → Type 0
-IsOutcome bytes (Optimal report) = ShowsCheapest bytes (string_bytes report)
-IsOutcome bytes Infeasible = ShowsInfeasible bytes infeasible_text
-IsOutcome bytes (Refused line) = ShowsRefusal bytes (string_bytes line)
+-- what comes of a command's reads and its job, over the read counts before and after
+abbrev pub Settles : (Due → Type 0) → Result Outcome Stop → (List ℕ → ℕ) → (List ℕ → ℕ) → Type 0
+Settles Comes (Ok outcome) before now = IsOutcome Comes outcome × Stay before now
+Settles Comes (Err (Refused outcome)) before now = IsOutcome Comes outcome × Stay before now
+Settles Comes (Err Unread) before now = (name : List ℕ) × Comes (unread name) × Rose (before name) (now name)
+Settles Comes (Err NoMemory) before now = Stay before now
+
+-- a text was printed whole, with its status; or a front of it, since a write failed
+abbrev pub Printed : Status → List ℕ → Status → Option (List ℕ) → Option (List ℕ) → ℕ → ℕ → Type 0
+Printed due text status before now faults_before faults_now =
+    ((status ≡ due) × Appends before now text × (faults_now ≡ faults_before))
+    ⊎ ((status ≡ status_of write_fault) × Rose faults_before faults_now × ((front : List ℕ) × (rest : List ℕ) × (text ≡ front ++ rest) × Appends before now front))
+
+-- how a run ends with what came
+abbrev pub Finishes : Result Outcome Stop → Status → Option (List ℕ) → Option (List ℕ) → ℕ → ℕ → Type 0
+Finishes (Ok outcome) status before now faults_before faults_now = Printed outcome.status (string_bytes outcome.text) status before now faults_before faults_now
+Finishes (Err (Refused outcome)) status before now faults_before faults_now = Printed outcome.status (string_bytes outcome.text) status before now faults_before faults_now
+Finishes (Err Unread) status before now faults_before faults_now = (status ≡ status_of read_fault) × (now ≡ before) × (faults_now ≡ faults_before)
+Finishes (Err NoMemory) status before now faults_before faults_now = (status ≡ status_of no_memory) × (now ≡ before) × (faults_now ≡ faults_before)
+
+-- what the bytes under a name are: a library, or which fault; those that are told, or where none are, some bytes
+pub record IsRead (told : Option (List ℕ)) (answer : Result LibraryParts LibFault) : Type 0 where
+  pub bytes : List ℕ
+  pub read : IfSome told (λ all. bytes ≡ all)
+  pub library : library_of bytes ≡ answer
+
+-- why a library wasn't had: its refusal is due for its first fault, over the read counts before and after
+abbrev pub StopsAtLibrary : Option (List ℕ) → List ℕ → Stop → (List ℕ → ℕ) → (List ℕ → ℕ) → Type 0
+StopsAtLibrary told name (Refused outcome) before now =
+    ((fault : LibFault) × IsRead told (Err fault) × (outcome.status ≡ status_of library_refused) × (string_bytes outcome.text ≡ refused_library_text fault)) × Stay before now
+StopsAtLibrary told name Unread before now = Rose (before name) (now name)
+StopsAtLibrary told name NoMemory before now = Stay before now

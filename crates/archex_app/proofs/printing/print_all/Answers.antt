@@ -1,4 +1,4 @@
-use Rattle.std.proofs.Common.{take, drop, sym, refl, arith}
+use Rattle.std.proofs.Common.{take, drop, sym, refl, ◌∙◌, arith}
 use Rattle.std.proofs.lemmas.List.{take-append-drop}
 use Rattle.archex_app.proofs.Pieces.{appends_no_more, print_more, print_within, on_err_holds}
 use Rattle.archex_app.proofs.printing.print_all.Goals as goal
@@ -14,4 +14,5 @@ loop-printed-preserved g c = record {
   within = print_within c.loop-printed.printed c.in_ok-printed.field-0 c.args.text.now c.loop-printed.invariant.within c.in_ok-printed.ensures.within;
   printed = print_more _ _ _ c.loop-printed.printed c.in_ok-printed.field-0 c.args.text.now _ refl c.loop-printed.invariant.printed c.in_ok-printed.ensures.added;
   never_falls = omega (arith, c.loop-printed.invariant.never_falls, c.in_ok-printed.ensures.never_falls);
+  stays = c.in_ok-printed.ensures.stays ∙ c.loop-printed.invariant.stays;
 }

@@ -1,18 +1,46 @@
-use Rattle.std.proofs.Common.{ap, ◌∙◌}
-use Rattle.std.specs.Prelude.{Ok}
-use Rattle.archex_app.specs.Words.{Asked, texts}
-use Rattle.archex_app.proofs.RunLaws.{cut_text, ends_in_status, run_completes}
+use Rattle.std.proofs.Common.{inl, inr}
+use Rattle.archex_app.specs.Words.{texts}
+use Rattle.archex_app.proofs.Headline.{solve_run, optimal, none_meets, refused_library, read_rose, cut, completes, refused, is_status, print_rose, read_prints_nothing, reads_stay, writes_stay, prints_stay, told_stays}
 use Rattle.archex_app.proofs.run.run_plain.Goals as goal
 
-pub returns-in-Ok-solve-clause-cut : goal.returns-in-Ok-solve-clause-cut
-returns-in-Ok-solve-clause-cut g c cut =
-    cut_text _ _ _ _ c.library.result.now c.as_bytes.result.now c.in-Ok-solve.outcome c.print.result c.status.result (c.in-Ok.ensures.command ∙ ap (λ (a : Asked). Ok a) c.library.ensures) c.in-Ok-solve.ensures.outcome
-    (c.as_bytes.ensures.value ∙ c.text.ensures) c.status.ensures cut c.print.ensures.ends
+pub returns-clause-optimal : goal.returns-clause-optimal
+returns-clause-optimal g c name asked is = optimal name _ _ _ (solve_run _ name _ _ _ asked c.run_command.ensures.run) is
 
-pub returns-in-Ok-solve-clause-statuses : goal.returns-in-Ok-solve-clause-statuses
-returns-in-Ok-solve-clause-statuses g c = ends_in_status c.in-Ok-solve.outcome c.print.result c.status.result c.status.ensures c.print.ensures.ends
+pub returns-clause-infeasible : goal.returns-clause-infeasible
+returns-clause-infeasible g c name asked is = none_meets name _ _ _ (solve_run _ name _ _ _ asked c.run_command.ensures.run) is
 
-pub returns-in-Ok-solve-clause-complete : goal.returns-in-Ok-solve-clause-complete
-returns-in-Ok-solve-clause-complete g c name bytes asked tells calm_shelf calm_sink =
-    run_completes (texts c.args.words.now) (g.F.Shelf.told c.args.shelf.now) name c.library.result.now bytes c.in-Ok-solve.outcome c.print.result c.status.result (c.in-Ok.ensures.command ∙ ap (λ (a : Asked). Ok a) c.library.ensures) asked tells c.in-Ok-solve.ensures.outcome c.status.ensures
-    c.print.ensures.ends calm_sink
+pub returns-clause-refused_library : goal.returns-clause-refused_library
+returns-clause-refused_library g c name asked is = refused_library name _ _ _ (solve_run _ name _ _ _ asked c.run_command.ensures.run) is
+
+pub returns-clause-read_fault : goal.returns-clause-read_fault
+returns-clause-read_fault g c name asked is = read_rose name _ _ _ (solve_run _ name _ _ _ asked c.run_command.ensures.run) is
+
+pub returns-clause-cut : goal.returns-clause-cut
+returns-clause-cut g c name asked is = cut name _ _ _ (solve_run _ name _ _ _ asked c.run_command.ensures.run) is
+
+pub returns-clause-complete : goal.returns-clause-complete
+returns-clause-complete g c name bytes asked tells reads prints = completes name bytes _ _ _ (solve_run _ name _ _ _ asked c.run_command.ensures.run) tells reads prints
+
+pub returns-clause-refused_words : goal.returns-clause-refused_words
+returns-clause-refused_words g c is = refused (texts c.args.words.now) _ _ _ c.run_command.ensures.run is
+
+pub returns-clause-statuses : goal.returns-clause-statuses
+returns-clause-statuses g c = is_status _ _ _ _ c.run_command.ensures.run
+
+pub returns-clause-write_fault : goal.returns-clause-write_fault
+returns-clause-write_fault g c is = print_rose _ _ _ _ c.run_command.ensures.run is
+
+pub returns-clause-nothing_printed : goal.returns-clause-nothing_printed
+returns-clause-nothing_printed g c ends = elim ends [ inl is ↦ read_prints_nothing _ _ _ _ c.run_command.ensures.run is | inr is ↦ c.run_command.ensures.unprinted is ]
+
+pub returns-clause-reads_stay : goal.returns-clause-reads_stay
+returns-clause-reads_stay g c calm = reads_stay _ _ _ _ c.run_command.ensures.run calm
+
+pub returns-clause-writes_stay : goal.returns-clause-writes_stay
+returns-clause-writes_stay g c = writes_stay _ _ _ _ c.run_command.ensures.run
+
+pub returns-clause-prints_stay : goal.returns-clause-prints_stay
+returns-clause-prints_stay g c calm = prints_stay _ _ _ _ c.run_command.ensures.run calm
+
+pub returns-clause-told_stays : goal.returns-clause-told_stays
+returns-clause-told_stays g c = told_stays _ _ _ _ c.run_command.ensures.run

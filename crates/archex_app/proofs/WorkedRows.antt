@@ -1,0 +1,51 @@
+-- Worked rows: the numbers that the code names, and what the definitions compute on small words.
+use Rattle.std.proofs.Common.{◌≡◌, ℕ, Option, None, List, [], ◌∷◌, codes, Ok, Err, refl, inl}
+use Rattle.archex_app.specs.declared.status.TheConstants as constants
+use Rattle.archex_app.specs.declared.reading.TheConstants.{READ_LIMIT}
+use Rattle.archex_app.specs.Status.{status_of, done, infeasible, library_refused, words_refused, read_fault, write_fault, no_memory}
+use Rattle.archex_app.specs.Due.{ends, unread}
+use Rattle.archex_app.specs.Words.{solve, command_of, refused_words_text, files_of, files_read}
+use Rattle.archex_app.specs.ComesTo.{ComesTo}
+
+-- the code's names of statuses
+answers : (constants.Status.DONE ≡ status_of done) × (constants.Status.INFEASIBLE ≡ status_of infeasible)
+answers = (refl, refl)
+
+refusals : (constants.Status.LIBRARY_REFUSED ≡ status_of library_refused) × (constants.Status.WORDS_REFUSED ≡ status_of words_refused)
+refusals = (refl, refl)
+
+faults : (constants.Status.READ_FAULT ≡ status_of read_fault) × (constants.Status.WRITE_FAULT ≡ status_of write_fault) × (constants.Status.NO_MEMORY ≡ status_of no_memory)
+faults = (refl, refl, refl)
+
+-- one byte more than a library may have is read of it
+limit : READ_LIMIT ≡ 1048577
+limit = refl
+
+-- words, their command and its files
+solve_a : command_of (codes "solve" ∷ codes "a" ∷ []) ≡ Ok (solve (codes "a"))
+solve_a = refl
+
+check_a : command_of (codes "check" ∷ codes "a" ∷ []) ≡ Err 1
+check_a = refl
+
+solve_only : command_of (codes "solve" ∷ []) ≡ Err 2
+solve_only = refl
+
+solve_empty : command_of (codes "solve" ∷ [] ∷ []) ≡ Err 2
+solve_empty = refl
+
+solve_two : command_of (codes "solve" ∷ codes "a" ∷ codes "b" ∷ []) ≡ Err 3
+solve_two = refl
+
+reads_a : files_of files_read (command_of (codes "solve" ∷ codes "a" ∷ [])) ≡ codes "a" ∷ []
+reads_a = refl
+
+-- what refused words come to, and that `solve` reads its library first
+abbrev untold : List ℕ → Option (List ℕ)
+untold name = None
+
+refused : ComesTo untold (command_of (codes "check" ∷ [])) (ends words_refused [] (refused_words_text 1))
+refused = refl
+
+reads_first : ComesTo untold (command_of (codes "solve" ∷ codes "a" ∷ [])) (unread (codes "a"))
+reads_first = inl refl

@@ -1,0 +1,42 @@
+-- What the words come to, over what the shelf tells under each name. The order of refusals stands here, once for all commands: the words; reading the library; the library; then the command's own job.
+use Rattle.std.specs.Prelude.{◌≡◌, ℕ, Option, List, [], ◌⊎◌, Result, Ok, Err, IfSome, MatchResult}
+use Rattle.arch_model.specs.Parts.{LibraryParts, ArchitectureParts}
+use Rattle.arch_model.specs.Admissible.{MeetsPatterns}
+use Rattle.lib_read.specs.LibraryOf.{library_of}
+use Rattle.archex_app.specs.Status.{Ending, done, infeasible, library_refused, words_refused}
+use Rattle.archex_app.specs.Due.{Due, ends, unread}
+use Rattle.archex_app.specs.Words.{Asked, solve, command_of, refused_words_text}
+use Rattle.archex_app.specs.Cheapest.{IsCheapest}
+use Rattle.archex_app.specs.Report.{optimal_text, infeasible_text}
+use Rattle.archex_app.specs.Refusal.{refused_library_text}
+
+-- the run ends so, with this text, and writes no file
+abbrev pub EndsWith : Ending → List ℕ → Due → Type 0
+EndsWith ending text due = due ≡ ends ending [] text
+
+-- a file is read: that fails, or something comes of its bytes: those that the shelf tells, or where it tells none, some bytes, of which nothing more is said
+abbrev pub Reads : (List ℕ → Option (List ℕ)) → List ℕ → (List ℕ → Due → Type 0) → Due → Type 0
+Reads told name Then due = (due ≡ unread name) ⊎ ((bytes : List ℕ) × IfSome (told name) (λ all. bytes ≡ all) × Then bytes due)
+
+-- of the bytes of a library the job over it comes; bytes that are no library are refused for their first fault
+abbrev pub OfLibrary : (LibraryParts → Due → Type 0) → List ℕ → Due → Type 0
+OfLibrary Job bytes due = MatchResult (library_of bytes) (λ lib. Job lib due) (λ fault. EndsWith library_refused (refused_library_text fault) due)
+
+-- a job over the library of a name
+abbrev pub OverLibrary : (List ℕ → Option (List ℕ)) → List ℕ → (LibraryParts → Due → Type 0) → Due → Type 0
+OverLibrary told name Job due = Reads told name (OfLibrary Job) due
+
+-- what `solve` comes to: the report of an architecture that meets the patterns at least cost, or that none meets them
+abbrev pub SolveComesTo : LibraryParts → Due → Type 0
+SolveComesTo lib due =
+    ((arch : ArchitectureParts) × IsCheapest lib arch × EndsWith done (optimal_text lib arch) due)
+    ⊎ (((arch : ArchitectureParts) → MeetsPatterns lib arch → ⊥) × EndsWith infeasible infeasible_text due)
+
+-- what a command comes to
+abbrev pub CommandComesTo : (List ℕ → Option (List ℕ)) → Asked → Due → Type 0
+CommandComesTo told (solve lib) due = OverLibrary told lib SolveComesTo due
+
+-- what words come to: their command, or the refusal for the first that isn't as it should be
+abbrev pub ComesTo : (List ℕ → Option (List ℕ)) → Result Asked ℕ → Due → Type 0
+ComesTo told (Ok asked) due = CommandComesTo told asked due
+ComesTo told (Err place) due = EndsWith words_refused (refused_words_text place) due

@@ -1,0 +1,39 @@
+// A library from the shelf.
+ghost use Rattle.std.specs.Prelude.{◌≡◌, ℕ, ◌≤◌, List, [], ◌∷◌, Ok, IfOk, OnOk, IfErr};
+ghost use Rattle.outside.specs.Faults.{Stay, ChangesOnly};
+ghost use Rattle.archex_app.specs.Inner.Outcome.{IsRead, StopsAtLibrary};
+
+use crate::outcome::{Outcome, Stop};
+use crate::reading::read_file;
+use crate::refusal::refusal;
+use crate::status::Status;
+use arch_model::Library;
+use lib_read::{LibError, read_library};
+use outside::Shelf;
+use std::alloc::Global;
+
+/// The library under a name. Bytes that are none are refused for their first fault.
+pub fn library_under<F: Shelf>(alloc: Global, shelf: &mut F, name: &str) -> Result<Library, Stop>
+    ensures library { IfOk result (λ lib. IsRead (F.told shelf.old name.now) (Ok lib)) }
+    ensures reads_stay { OnOk result (Stay (F.read_faults shelf.old) (F.read_faults shelf.new)) }
+    ensures stop { IfErr result (λ stop. StopsAtLibrary (F.told shelf.old name.now) name.now stop
+        (F.read_faults shelf.old) (F.read_faults shelf.new)) }
+
+    ensures told_stays { (other : List ℕ) → F.told shelf.new other ≡ F.told shelf.old other }
+    ensures reads_never_fall { (other : List ℕ) → F.read_faults shelf.old other ≤ F.read_faults shelf.new other }
+    ensures reads_alone { ChangesOnly (name.now ∷ []) (F.read_faults shelf.old) (F.read_faults shelf.new) }
+    ensures writes_stay { Stay (F.write_faults shelf.old) (F.write_faults shelf.new) }
+{
+    let bytes = read_file(alloc, shelf, name)?;
+    match read_library(alloc, bytes.as_slice()) {
+        Ok(lib) => Ok(lib),
+        Err(LibError::Fault(fault)) => {
+            let text = refusal(alloc, &fault)?;
+            Err(Stop::Refused(Outcome {
+                status: Status::LIBRARY_REFUSED,
+                text,
+            }))
+        }
+        Err(LibError::Memory) => Err(Stop::NoMemory),
+    }
+}

@@ -1,0 +1,78 @@
+// What a command comes to before anything is printed, and how a run ends with it.
+ghost use Rattle.std.specs.Prelude.{◌≡◌, ℕ, ◌≤◌, List, ◌++◌, ◌⊎◌};
+ghost use Rattle.outside.specs.Faults.{Rose};
+ghost use Rattle.outside.specs.Told.{Appends};
+ghost use Rattle.archex_app.specs.Inner.Outcome.{Finishes, Printed};
+
+use crate::printing::print_all;
+use crate::reading::ReadError;
+use crate::status::Status;
+use outside::Sink;
+use std::alloc::AllocError;
+
+/// What a command comes to.
+#[derive(Drop)]
+pub struct Outcome {
+    /// How the run ends, once the text is printed.
+    pub status: Status,
+    /// The text that is due on the sink.
+    pub text: String,
+}
+
+/// Why a command stops before its job is done.
+#[derive(Drop)]
+pub enum Stop {
+    /// There was no memory.
+    NoMemory,
+    /// A read of a file failed.
+    Unread,
+    /// What was read is refused.
+    Refused(Outcome),
+}
+
+impl From<AllocError> for Stop {
+    ghost use Rattle.archex_app.specs.declared.outcome.Stop.TheVariants.{NoMemory};
+
+    ghost from_gives = { λ _ stop. stop ≡ NoMemory };
+
+    fn from(_error: AllocError) -> Stop {
+        Stop::NoMemory
+    }
+}
+
+impl From<ReadError> for Stop {
+    ghost use Rattle.archex_app.specs.Inner.Outcome.{stop_of};
+
+    ghost from_gives = { λ error stop. stop ≡ stop_of error };
+
+    fn from(error: ReadError) -> Stop {
+        match error {
+            ReadError::Memory => Stop::NoMemory,
+            ReadError::Failed => Stop::Unread,
+        }
+    }
+}
+
+/// Prints a text, and answers the status that goes with it, or that it couldn't be printed whole.
+pub fn print<O: Sink>(out: &mut O, text: &[u8], status: Status) -> Status
+    ensures printed { Printed status text.now result (O.told out.old) (O.told out.new) (O.faults out.old) (O.faults out.new) }
+    ensures never_falls { O.faults out.old ≤ O.faults out.new }
+{
+    match print_all(out, text) {
+        Ok(()) => status,
+        Err(_) => Status::WRITE_FAULT,
+    }
+}
+
+/// Prints what a command came to, and answers how the run ended.
+pub fn finish<O: Sink>(out: &mut O, outcome: Result<Outcome, Stop>) -> Status
+    ensures finishes { Finishes outcome result (O.told out.old) (O.told out.new) (O.faults out.old) (O.faults out.new) }
+    ensures never_falls { O.faults out.old ≤ O.faults out.new }
+{
+    match outcome {
+        Ok(outcome) => print(out, outcome.text.as_bytes(), outcome.status),
+        Err(Stop::Refused(outcome)) => print(out, outcome.text.as_bytes(), outcome.status),
+        Err(Stop::Unread) => Status::READ_FAULT,
+        Err(Stop::NoMemory) => Status::NO_MEMORY,
+    }
+}
