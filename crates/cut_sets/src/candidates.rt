@@ -1,5 +1,6 @@
 // Which members a set can have.
 ghost use Rattle.std.specs.Prelude.{◌≡◌, ℕ, ◌<◌, ◌≤◌, ◌&&◌, nat_lt, length};
+ghost use Rattle.arch_model.specs.Inner.Sets.{members_from};
 ghost use Rattle.arch_model.specs.Set as set;
 ghost use Rattle.arch_model.specs.Library.{IsLibrary};
 ghost use Rattle.arch_model.specs.declared.limits.TheConstants.{MEMBERS, FAILING};
@@ -32,7 +33,7 @@ fn may_fail(lib: &Library, arch: &Architecture, v: u32) -> bool
 // The members that are present and may fail.
 pub(crate) fn candidates(lib: &Library, arch: &Architecture) -> MemberSet
     ensures each { (v : ℕ) → set.has result v ≡ is_candidate lib.now arch.now v }
-    ensures few { length (set.members_from result 0 MEMBERS) ≤ FAILING }
+    ensures few { length (members_from result 0 MEMBERS) ≤ FAILING }
     ensures small { member_count lib.now ≤ MEMBERS }
     ensures library { IsLibrary lib.now }
 {
