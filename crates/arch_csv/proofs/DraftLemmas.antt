@@ -73,7 +73,7 @@ added_so earlier (Ok x) item e = elim (cases_Bool (has_item earlier x)) [
   | inr fresh ↦ rw fresh at e
 ]
 
-later_fault : (lib : LibraryParts) (rows : List Record) (row : Record) → 0 < length rows → fault_after lib rows row ≡ class_of (added (members_of lib rows) (item_of lib row))
+pub later_fault : (lib : LibraryParts) (rows : List Record) (row : Record) → 0 < length rows → fault_after lib rows row ≡ class_of (added (members_of lib rows) (item_of lib row))
 later_fault lib [] row some = absurd (omega arith)
 later_fault lib (x ∷ rows) row some = refl
 

@@ -6,3 +6,6 @@ pub mod EdgesDiffer
 pub mod Naming
 pub mod DraftLemmas
 pub mod RecordsRead
+pub mod TextLaws
+pub mod ReadBack
+pub mod ReadFits

@@ -5,6 +5,7 @@ use Rattle.std.specs.Str.{IsAscii, IsUtf8}
 use Rattle.std.specs.List.{AllByRecursion, list_all}
 use Rattle.std.proofs.lemmas.Bool.{cases_lt}
 use Rattle.std.proofs.lemmas.Bool.Decides.{nat_tests}
+use Rattle.std.proofs.lemmas.List.{length-append}
 use Rattle.std.proofs.lemmas.Str.{IsUtf8-from_ascii}
 use Rattle.arch_model.specs.Name.{is_name_byte}
 use Rattle.arch_model.specs.Parts.{LibraryParts}
@@ -59,3 +60,20 @@ plain_ascii (b ∷ text) h (suc i) = plain_ascii text h.1 i
 -- a name is text
 pub names_are_text : (lib : LibraryParts) → IsLibrary lib → (c : ℕ) → c < length lib.components → IsUtf8 (component_name lib c)
 names_are_text lib h c short = IsUtf8-from_ascii (component_name lib c) (plain_ascii (component_name lib c) (names_are_plain lib h c short))
+
+index_short : (n : ℕ) → n < 100 → length (decimal n) ≤ 2
+index_short n short = elim (cases_lt n 10) [
+  | inl one ↦ let e = ap length (decimal_one n one) in omega (arith, e)
+  | inr two ↦ let e = ap length (decimal_two n two short) in omega (arith, e)
+]
+
+-- a name has at most 27 bytes
+pub names_are_short : (lib : LibraryParts) → IsLibrary lib → (c : ℕ) → c < length lib.components → length (component_name lib c) ≤ 27
+names_are_short lib h c short =
+    let x = get_or lib.components c blank_component in
+    let numbers = component_numbers lib h c blank_component short in
+    let type = get_or lib.types x.of blank_row in
+    let small : x.index < 100 = omega (arith, numbers.2) in
+    let typed = (h.types x.of blank_row numbers.0).name.short in
+    let parts = ap length (component_name_at lib c blank_component blank_row short numbers.0) in
+    omega (arith, parts, length-append type.name (46 ∷ decimal x.index), typed, index_short x.index small)

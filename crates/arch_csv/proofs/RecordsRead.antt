@@ -74,7 +74,7 @@ goes_on lib text old new known after row left h step same taken =
     }
 
 -- within the limit, the records decide
-within : (lib : LibraryParts) (bytes : List ℕ) → length bytes ≤ 1048576 → architecture_of_bytes lib bytes ≡ architecture_of_records lib (records_of bytes)
+pub within : (lib : LibraryParts) (bytes : List ℕ) → length bytes ≤ 1048576 → architecture_of_bytes lib bytes ≡ architecture_of_records lib (records_of bytes)
 unfolding architecture_of_bytes
 within lib bytes few = rw (not_less 1048576 (length bytes) few) refl
   where

@@ -1,6 +1,7 @@
 // What is known of a file after some of its records.
 ghost use Rattle.std.specs.Prelude.{◌≡◌, ◌+◌, ◌^◌, ◌<◌, [], ◌∷◌, ◌++◌, length, List, OnOk, IfOk, IfErr, Ok, Err};
 ghost use Rattle.arch_model.specs.Library.{IsLibrary};
+ghost use Rattle.arch_model.specs.Architecture.{IsArchitecture};
 ghost use Rattle.arch_model.specs.declared.limits.TheConstants.{COMPONENTS, EDGES};
 ghost use Rattle.csv.specs.Records.{fields_of};
 ghost use Rattle.arch_csv.specs.Records as spec;
@@ -138,6 +139,7 @@ impl Draft {
         requires { (rows : List spec.Record) × IsDraft lib.now rows self }
         ensures ok { IfOk result (λ arch. (rows : List spec.Record) → IsDraft lib.now rows self
             → architecture_of_records lib.now rows ≡ Ok arch) }
+        ensures fits { IfOk result (λ arch. IsArchitecture lib.now arch) }
         ensures err { IfErr result (λ e. (rows : List spec.Record) → IsDraft lib.now rows self
             → FileFault lib.now rows e) }
     {

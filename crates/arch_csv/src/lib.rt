@@ -19,10 +19,13 @@
 mod draft;
 mod fault;
 mod item;
+pub mod laws;
 mod reader;
+mod writer;
 
 pub use fault::{ArchClass, ArchError, ArchFault};
 pub use reader::{LARGEST, read_architecture};
+pub use writer::write_architecture;
 
 #[cfg(test)]
 mod tests;

@@ -1,5 +1,6 @@
 // The architecture of bytes.
-ghost use Rattle.std.specs.Prelude.{◌≡◌, ◌≤◌, true, Ok, IfOk, IfErr, length};
+ghost use Rattle.std.specs.Prelude.{◌≡◌, ◌≤◌, true, false, Ok, IfOk, IfErr, length};
+ghost use Rattle.arch_model.specs.Architecture.{IsArchitecture};
 ghost use Rattle.csv.specs.Reading.{error_kind, stops_reader};
 ghost use Rattle.arch_csv.specs.ArchitectureOf.{architecture_of_bytes, records_of, FaultOf};
 ghost use Rattle.arch_csv.specs.Inner.Draft.{IsDraft};
@@ -16,7 +17,9 @@ pub const LARGEST: usize = 1_048_576;
 // What an error of `csv` at a record is here. A slice of bytes has no fault of its own, so an
 // error of reading it is want of memory too.
 fn refusal(error: &Error, place: u64) -> ArchError
-    ensures { stops_reader (error_kind error.now) ≡ true → result ≡ ArchError.Memory }
+    ensures memory { stops_reader (error_kind error.now) ≡ true → result ≡ ArchError.Memory }
+    ensures fields { stops_reader (error_kind error.now) ≡ false
+        → result ≡ ArchError.Fault (record { class = ArchClass.Fields; place = place }) }
 {
     match error.kind() {
         ErrorKind::OutOfMemory => ArchError::Memory,
@@ -56,6 +59,7 @@ pub fn read_architecture(
     bytes: &[u8],
 ) -> Result<Architecture, ArchError>
     ensures architecture { IfOk result (λ arch. architecture_of_bytes lib.now bytes.now ≡ Ok arch) }
+    ensures fits { IfOk result (λ arch. IsArchitecture lib.now arch) }
     ensures fault { IfErr result (FaultOf lib.now bytes.now) }
 {
     if bytes.len() > LARGEST {

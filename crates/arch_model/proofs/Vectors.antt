@@ -29,7 +29,7 @@ chosen_all {X = X} P s d b (x ∷ xs) each =
       | inr off ↦ subst (λ v. AllByRecursion P (map (λ (p : ℕ × X). p.1) (cond v ((b, x) ∷ filter (λ (p : ℕ × X). s p.0) (enumerate_from (b + 1) xs)) (filter (λ (p : ℕ × X). s p.0) (enumerate_from (b + 1) xs))))) (sym off) rest
     ]
 
-chosen_at : {X : Type 0} (P : X → Type 0) (s : ℕ → Bool) (d : X) (b : ℕ) (xs : List X) → AllByRecursion P (map (λ (p : ℕ × X). p.1) (filter (λ (p : ℕ × X). s p.0) (enumerate_from b xs)))
+pub chosen_at : {X : Type 0} (P : X → Type 0) (s : ℕ → Bool) (d : X) (b : ℕ) (xs : List X) → AllByRecursion P (map (λ (p : ℕ × X). p.1) (filter (λ (p : ℕ × X). s p.0) (enumerate_from b xs)))
     → (i : ℕ) → i < length xs → s (b + i) ≡ true → P (get_or xs i d)
 chosen_at P s d b [] all i short on = absurd (omega arith)
 chosen_at {X = X} P s d b (x ∷ xs) all zero short on =

@@ -2,6 +2,7 @@ use Rattle.std.proofs.Common.{ℕ, List, ◌<◌, length, refl, sym, ap, subst, 
 use Rattle.std.specs.List.{All}
 use Rattle.arch_model.specs.declared.sets.EdgeId.{EdgeId}
 use Rattle.arch_csv.proofs.DraftLemmas.{draft_edges, end_missing, ends_there, file_empty}
+use Rattle.arch_csv.proofs.ReadFits.{records_fit}
 use Rattle.arch_csv.proofs.draft.Draft.finish.Goals as goal
 
 pub returns-then-self-eq0-clause-err : goal.returns-then-self-eq0-clause-err
@@ -22,3 +23,8 @@ pub returns-clause-ok : goal.returns-clause-ok
 returns-clause-ok c = λ rows h.
     ends_there c.args.lib.now rows c.args.self c.deref-place-items.result.now c.loop-place.place-index c.deref-place-items.ensures.value h (omega (arith, c.if-self-eq0.false)) c.loop-place-test.false c.loop-place.invariant
     ∙ ap Ok (sym c.new.ensures)
+
+pub returns-clause-fits : goal.returns-clause-fits
+returns-clause-fits c =
+    let is = ends_there c.args.lib.now c.requires.0 c.args.self c.deref-place-items.result.now c.loop-place.place-index c.deref-place-items.ensures.value c.requires.1 (omega (arith, c.if-self-eq0.false)) c.loop-place-test.false c.loop-place.invariant in
+    records_fit c.args.lib.now c.requires.0 c.new.result (is ∙ ap Ok (sym c.new.ensures))
