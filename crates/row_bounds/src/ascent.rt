@@ -1,5 +1,6 @@
 // The ascent, row after row, which notes on its way the rows that a second candidate looks at.
-ghost use Rattle.std.specs.Prelude.{◌≡◌, true, false, ℕ, ◌≤◌, ◌<◌, ◌^◌, length, slice_get, slice_index, vec_capacity, fold};
+ghost use Rattle.std.specs.Prelude.{◌≡◌, true, false, ℕ, ◌≤◌, ◌<◌, ◌^◌, length, fold};
+ghost use Rattle.std.specs.Prelude.{slice_get, slice_index, vec_capacity};
 ghost use Rattle.std.specs.Prelude.{IfOk, IfSome};
 ghost use Rattle.rows.specs.Row.{row_of_cut};
 ghost use Rattle.rows.specs.Known.{parts_of, known_cuts, IsKnown};

@@ -1,5 +1,6 @@
 // What a row takes of the residues: how often it may be added, and what it leaves then.
-ghost use Rattle.std.specs.Prelude.{◌≡◌, ℕ, ◌+◌, ◌*◌, ◌-◌, ◌≤◌, ◌<◌, ◌^◌, slice_index, slice_get, length, Some, if◌then◌else◌};
+ghost use Rattle.std.specs.Prelude.{◌≡◌, ℕ, ◌+◌, ◌*◌, ◌-◌, ◌≤◌, ◌<◌, ◌^◌, if◌then◌else◌};
+ghost use Rattle.std.specs.Prelude.{slice_index, slice_get, length, Some};
 ghost use Rattle.arch_model.specs.Set.{has, minus};
 ghost use Rattle.rows.specs.Row.{IsSized, IsRowBelow, coef_at, cut_coef, row_of_cut};
 ghost use Rattle.rows.specs.Ascent.{times_of, left_of};
@@ -118,7 +119,8 @@ pub(crate) fn spend_row(residue: &mut [u128; MEMBERS], row: &Row, times: u64)
 // Lowers the residues of some variables.
 fn lower(residue: &mut [u128; MEMBERS], members: &MemberSet, by: u64)
     ensures { (v : ℕ) → v < MEMBERS
-        → slice_index residue.new v ≡ (if has members.now v then slice_index residue.old v - by else slice_index residue.old v) }
+        → slice_index residue.new v
+        ≡ (if has members.now v then slice_index residue.old v - by else slice_index residue.old v) }
 {
     for v in members.members() {
         residue[v.0 as usize] = residue[v.0 as usize].saturating_sub(by as u128);
@@ -130,7 +132,8 @@ fn raise(residue: &mut [u128; MEMBERS], members: &MemberSet, by: u64)
     requires few { by ≤ 10 ^ 12 }
     requires low { (v : ℕ) → v < MEMBERS → slice_index residue.old v ≤ 2 ^ 120 }
     ensures { (v : ℕ) → v < MEMBERS
-        → slice_index residue.new v ≡ (if has members.now v then slice_index residue.old v + by else slice_index residue.old v) }
+        → slice_index residue.new v
+        ≡ (if has members.now v then slice_index residue.old v + by else slice_index residue.old v) }
 {
     for v in members.members() {
         residue[v.0 as usize] += by as u128;

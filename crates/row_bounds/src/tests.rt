@@ -1,9 +1,9 @@
 // Bounds of a network without types. Its cuts have no terms, so each says 0 >= 1, and a reason may
 // take it as often as any reason may take a row. Bounds of networks with members are tested where
 // problems are made from libraries.
-ghost use Rattle.std.specs.Prelude.{◌≡◌, ◌<◌, ℕ, IfOk, length};
+ghost use Rattle.std.specs.Prelude.{◌≡◌, ◌<◌, ◌≤◌, ℕ, IfOk, length};
 ghost use Rattle.std.specs.List.{All};
-ghost use Rattle.rows.specs.Known.{IsCutBelow};
+ghost use Rattle.rows.specs.Known.{IsCutBelow, IsKnown, parts_of};
 
 use crate::{Bounded, ascend, branching_variable, lift};
 use arch_model::{Library, Memory, Template, VarId};
@@ -37,7 +37,12 @@ fn broken_cuts(alloc: Global, count: u32) -> Result<CutList, Memory>
     Ok(cuts)
 }
 
-fn known<'a>(problem: &'a Problem, cuts: &'a CutList, upto: u32, bound: Option<u64>) -> Known<'a> {
+// What is known of a problem with the first of some cuts.
+fn known<'a>(problem: &'a Problem, cuts: &'a CutList, upto: u32, bound: Option<u64>) -> Known<'a>
+    requires upto { upto ≤ length cuts.now.cuts }
+    requires below { (n : ℕ) → All (IsCutBelow n) cuts.now.cuts }
+    ensures { IsKnown (parts_of result) }
+{
     Known {
         problem,
         cuts,
@@ -102,7 +107,7 @@ fn an_ascent_is_settled(rt: HostRuntime) -> Result<(), Fail> {
 fn there_is_nothing_to_branch_on(rt: HostRuntime) -> Result<(), Fail> {
     let alloc = rt.alloc();
     let problem = empty_problem(alloc);
-    let cuts = CutList::new(alloc);
+    let cuts = broken_cuts(alloc, 0)?;
     let whole = Cube::whole();
     let known = known(&problem, &cuts, 0, None);
     let ascent = ascend(alloc, &known, &whole)?;

@@ -1,4 +1,4 @@
-use Rattle.std.proofs.Common.{◌≡◌, ◌≤◌, ◌<◌, ◌∙◌, sym, ap, length, get_or, slice_get, Some, refl, rules, arith}
+use Rattle.std.proofs.Common.{◌≡◌, ◌≤◌, ◌<◌, ◌∙◌, sym, ap, length, get_or, slice_get, Some, refl, arith}
 use Rattle.rows.specs.Known.{parts_of}
 use Rattle.rows.specs.declared.known.RowRef.TheVariants.{Base}
 use Rattle.std.proofs.lemmas.Option.{slice_get_read}

@@ -1,4 +1,4 @@
-use Rattle.std.proofs.Common.{◌≤◌, ◌<◌, ◌∙◌, sym, length, rules, arith}
+use Rattle.std.proofs.Common.{◌≤◌, ◌<◌, ◌∙◌, sym, length, arith}
 use Rattle.rows.specs.Known.{parts_of}
 use Rattle.rows.specs.declared.known.RowRef.TheVariants.{Cut}
 use Rattle.row_bounds.proofs.AscentLaws.{cut_met, cut_none, cut_added, known_cut, rising_more, has_cut}

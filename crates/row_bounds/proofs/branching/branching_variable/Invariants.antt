@@ -1,6 +1,5 @@
 use Rattle.std.proofs.Common.{◌≡◌, ℕ, ◌<◌, true, IfSome, IfNone, IsTrue}
 use Rattle.arch_model.specs.Set.{has}
-use Rattle.arch_model.specs.Member.{member_count}
 use Rattle.rows.specs.Cube.{is_free}
 use Rattle.row_bounds.proofs.branching.branching_variable.Given as goal
 
