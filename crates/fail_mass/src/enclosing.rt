@@ -13,7 +13,7 @@ use arch_model::{Architecture, CompId, Library, MemberSet};
 /// A lower and an upper bound of the failure mass of a sink, in units of 10^-18: how likely it is
 /// that no path leads to it any more. Each is that of conditioning on every member in turn with
 /// each step rounded, down for the first and up for the second. A sink that is absent, or that no
-/// path reaches, has 10^18 for both.
+/// path reaches, has 10^18 for both. The architecture must be one of the library, as `fits` tests.
 pub fn enclose(lib: &Library, arch: &Architecture, sink: CompId) -> (u64, u64)
     requires { IsArchitecture lib.now arch.now }
     ensures exact { result ≡ enclosure_of lib.now arch.now sink.0 }

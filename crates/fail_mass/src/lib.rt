@@ -6,13 +6,17 @@
 //! defines them. They hold the mass between them and are at most 2 apart for each member, and the
 //! mass is at most the sink's weight.
 //!
-//! Conditioning (the textbook's pivotal decomposition) has 2^n cases for n members. Both roundings
-//! keep a value of which both cases are the same, so the code looks only at the members that may
+//! Conditioning (the textbook's pivotal decomposition, or factoring) has 2^n cases for n members.
+//! Both roundings keep a value that both cases share, so the code looks only at the members that
 //! still matter: an absent member, one that never fails, or one that lies on no path that is left
 //! makes no case, and one that always fails makes one. Where the failed members part the sink the
-//! value is 10^18, and where all that may still fail wouldn't part it, it is 0. It takes no memory:
-//! the sets lie on the stack, and a call is nested at most once for each member that may fail, of
-//! which a library has at most 64.
+//! value is 10^18, and where all that may still fail wouldn't part it, it is 0.
+//!
+//! What it costs: a case in which a member fails is searched twice, down from the sources and up
+//! from the sink, and one in which it works once, all over one table of edges as long as no edge
+//! has failed. For k chains of m members side by side that is still m^k cases that part the sink.
+//! It takes no memory: the sets lie on the stack, and calls are nested at most twice for each
+//! member that may fail, of which a library has at most 64.
 //!
 //! Stands on `arch_model` and `paths`.
 #![tactic(auto)]
