@@ -55,7 +55,8 @@ impl From<ReadError> for Stop {
 
 /// Prints a text, and answers the status that goes with it, or that it couldn't be printed whole.
 pub fn print<O: Sink>(out: &mut O, text: &[u8], status: Status) -> Status
-    ensures printed { Printed status text.now result (O.told out.old) (O.told out.new) (O.faults out.old) (O.faults out.new) }
+    ensures printed { Printed status text.now result (O.told out.old) (O.told out.new)
+        (O.faults out.old) (O.faults out.new) }
     ensures never_falls { O.faults out.old ≤ O.faults out.new }
 {
     match print_all(out, text) {

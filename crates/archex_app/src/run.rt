@@ -8,7 +8,8 @@ ghost use Rattle.archex_app.specs.Status.{IsStatus, status_of, done, infeasible,
 ghost use Rattle.archex_app.specs.Status.{read_fault, write_fault, no_memory};
 ghost use Rattle.archex_app.specs.Run.{Runs, seen};
 ghost use Rattle.archex_app.specs.Complete.{Completes};
-ghost use Rattle.archex_app.specs.Answer.{ShowsCheapest, ShowsInfeasible, ShowsRefusal, ShowsAnswer, Prints, PrintsFront};
+ghost use Rattle.archex_app.specs.Answer.{ShowsCheapest, ShowsInfeasible, ShowsRefusal, ShowsAnswer};
+ghost use Rattle.archex_app.specs.Answer.{Prints, PrintsFront};
 ghost use Rattle.archex_app.specs.Inner.Outcome.{Printed};
 
 use crate::outcome::print;
@@ -38,8 +39,10 @@ fn run_command<F: Shelf, O: Sink>(
     out: &mut O,
 ) -> Status
     ensures run { Runs (command_of (texts words.now)) result
-        (seen (F.told shelf.old) (F.read_faults shelf.old) (F.write_faults shelf.old) (O.told out.old) (O.faults out.old))
-        (seen (F.told shelf.new) (F.read_faults shelf.new) (F.write_faults shelf.new) (O.told out.new) (O.faults out.new)) }
+        (seen (F.told shelf.old) (F.read_faults shelf.old) (F.write_faults shelf.old)
+        (O.told out.old) (O.faults out.old))
+        (seen (F.told shelf.new) (F.read_faults shelf.new) (F.write_faults shelf.new)
+        (O.told out.new) (O.faults out.new)) }
     ensures words_first { IsErr (command_of (texts words.now))
         → (result ≡ status_of words_refused) ⊎ (result ≡ status_of write_fault) }
     ensures untouched { IsErr (command_of (texts words.now)) → shelf.new ≡ shelf.old }
@@ -66,8 +69,10 @@ pub fn run_plain<F: Shelf, O: Sink>(
     // What is said of all commands alike: a run ends as something that its words come to, printed
     // whole, or with a fault whose count rose, or for want of memory; and what it leaves.
     ensures run { Runs (command_of (texts words.now)) result
-        (seen (F.told shelf.old) (F.read_faults shelf.old) (F.write_faults shelf.old) (O.told out.old) (O.faults out.old))
-        (seen (F.told shelf.new) (F.read_faults shelf.new) (F.write_faults shelf.new) (O.told out.new) (O.faults out.new)) }
+        (seen (F.told shelf.old) (F.read_faults shelf.old) (F.write_faults shelf.old)
+        (O.told out.old) (O.faults out.old))
+        (seen (F.told shelf.new) (F.read_faults shelf.new) (F.write_faults shelf.new)
+        (O.told out.new) (O.faults out.new)) }
 
     // What each status of `solve` says of the bytes of LIB, of all architectures of its template,
     // and of what was printed.

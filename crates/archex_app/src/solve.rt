@@ -65,8 +65,10 @@ pub fn solve_library<F: Shelf, O: Sink>(
     out: &mut O,
 ) -> Status
     ensures run { Runs (Ok (solve lib.now)) result
-        (seen (F.told shelf.old) (F.read_faults shelf.old) (F.write_faults shelf.old) (O.told out.old) (O.faults out.old))
-        (seen (F.told shelf.new) (F.read_faults shelf.new) (F.write_faults shelf.new) (O.told out.new) (O.faults out.new)) }
+        (seen (F.told shelf.old) (F.read_faults shelf.old) (F.write_faults shelf.old)
+        (O.told out.old) (O.faults out.old))
+        (seen (F.told shelf.new) (F.read_faults shelf.new) (F.write_faults shelf.new)
+        (O.told out.new) (O.faults out.new)) }
     ensures unprinted { result ≡ status_of no_memory → O.told out.new ≡ O.told out.old }
 {
     let outcome = come_to(alloc, shelf, lib);

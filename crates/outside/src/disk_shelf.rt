@@ -1,5 +1,6 @@
 // Real files.
-ghost use Rattle.std.specs.Prelude.{◌≡◌, ◌≢◌, ℕ, ◌<◌, ◌≤◌, List, [], ◌∷◌, length, map, take, string_bytes, IfSome, IfOk};
+ghost use Rattle.std.specs.Prelude.{◌≡◌, ◌≢◌, ℕ, ◌<◌, ◌≤◌, List, [], ◌∷◌, length};
+ghost use Rattle.std.specs.Prelude.{map, take, string_bytes, IfSome, IfOk};
 ghost use Rattle.std.specs.Prelude.{OnOk, OnErr, MatchResult};
 ghost use Rattle.outside.specs.Faults.{Rose, NeverFall, Stay, ChangesOnly};
 ghost use Rattle.outside.specs.Told.{Finds, Appends, untold};

@@ -1,5 +1,6 @@
 // Shelves: files by name.
-ghost use Rattle.std.specs.Prelude.{◌≡◌, ◌≢◌, ℕ, ◌<◌, ◌≤◌, Option, List, [], ◌∷◌, length, take, IfSome, IfOk, OnOk, OnErr};
+ghost use Rattle.std.specs.Prelude.{◌≡◌, ◌≢◌, ℕ, ◌<◌, ◌≤◌, Option, List, [], ◌∷◌, length};
+ghost use Rattle.std.specs.Prelude.{take, IfSome, IfOk, OnOk, OnErr};
 ghost use Rattle.std.specs.Prelude.{MatchResult};
 ghost use Rattle.outside.specs.Faults.{Rose, Stay, ChangesOnly};
 ghost use Rattle.outside.specs.Told.{Finds, Appends};

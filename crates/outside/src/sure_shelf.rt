@@ -1,5 +1,6 @@
 // A shelf whose calls never fail.
-ghost use Rattle.std.specs.Prelude.{◌≡◌, ℕ, ◌<◌, ◌≤◌, List, [], ◌∷◌, length, take, position, unwrap_or, false, None, Some};
+ghost use Rattle.std.specs.Prelude.{◌≡◌, ℕ, ◌<◌, ◌≤◌, List, [], ◌∷◌, length, take};
+ghost use Rattle.std.specs.Prelude.{position, unwrap_or, false, None, Some};
 ghost use Rattle.std.specs.Prelude.{Ok, IfSome, IfOk, OnOk, OnErr, MatchResult};
 ghost use Rattle.std.specs.Str.{bytes_eq};
 ghost use Rattle.outside.specs.Faults.{Rose, Stay, ChangesOnly};

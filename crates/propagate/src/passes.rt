@@ -36,7 +36,8 @@ pub(crate) fn pass(known: &Known, cube: &mut Cube, steps: &mut Vec<RowRef>) -> O
     ensures room { HasRoom (parts_of known.now) cube.new (vec_len steps.new) (vec_capacity steps.new) }
     ensures capacity { vec_capacity steps.new ≡ vec_capacity steps.old }
     ensures leads { Leads (parts_of known.now) cube.old steps.old.items cube.new steps.new.items }
-    ensures quiet { IfNone result (length steps.new.items ≡ length steps.old.items → IsQuiet (parts_of known.now) cube.new) }
+    ensures quiet { IfNone result
+        (length steps.new.items ≡ length steps.old.items → IsQuiet (parts_of known.now) cube.new) }
     ensures there { IfSome result (λ r. IsTrue (has_row (parts_of known.now) r)) }
     ensures refuted { IfSome result
         (λ r. IfSome (row_at (parts_of known.now) r) (λ row. IsRefuted row cube.new)) }

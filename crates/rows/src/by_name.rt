@@ -1,5 +1,6 @@
 // What is asked of a row by its name. Here alone are base rows, cuts and the cost row told apart.
-ghost use Rattle.std.specs.Prelude.{◌≡◌, ◌≤◌, ◌<◌, ◌^◌, Some, false, length, slice_get, IfSome, IsTrue, option_map, unsigned_abs};
+ghost use Rattle.std.specs.Prelude.{◌≡◌, ◌≤◌, ◌<◌, ◌^◌, Some, false, length, slice_get};
+ghost use Rattle.std.specs.Prelude.{IfSome, IsTrue, option_map, unsigned_abs};
 ghost use Rattle.rows.specs.Row.{Ascends, IsRowBelow};
 ghost use Rattle.rows.specs.Activity.{is_refuted, least_forced, IsQuietAt};
 ghost use Rattle.rows.specs.Known.{parts_of, has_row, row_at};

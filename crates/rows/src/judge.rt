@@ -1,6 +1,7 @@
 // What a known row says of a cube: how great its sum gets, whether it is refuted or unmet, and what
 // it forces.
-ghost use Rattle.std.specs.Prelude.{◌≡◌, ℕ, ◌≤◌, ◌^◌, ◌↔◌, Some, IsTrue, IfSome, IfNone, option_map, replicate, unsigned_abs};
+ghost use Rattle.std.specs.Prelude.{◌≡◌, ℕ, ◌≤◌, ◌^◌, ◌↔◌, Some, IsTrue, IfSome};
+ghost use Rattle.std.specs.Prelude.{IfNone, option_map, replicate, unsigned_abs};
 ghost use Rattle.rows.specs.Activity.{greatest_activity, is_refuted, IsRefuted, is_unmet, IsUnmet, least_forced};
 ghost use Rattle.rows.specs.Activity.{IsLeastForced, ForcesNothing, IsQuietAt};
 ghost use Rattle.rows.specs.Inner.Room.{number_of};

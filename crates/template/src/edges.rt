@@ -3,7 +3,8 @@ ghost use Rattle.std.specs.Prelude.{◌≡◌, ◌≤◌, ◌<◌, ◌^◌, ◌+
 ghost use Rattle.std.specs.Prelude.{length};
 ghost use Rattle.std.specs.List.{All, flat_map};
 ghost use Rattle.arch_model.specs.Library.{IsTypeRow, IsLinkRow};
-ghost use Rattle.arch_model.specs.Template.{template_of, components_of, instances_of, edges_to, edges_of_link, edges_of};
+ghost use Rattle.arch_model.specs.Template.{template_of, components_of, instances_of, edges_to};
+ghost use Rattle.arch_model.specs.Template.{edges_of_link, edges_of};
 
 use crate::instances::components;
 use arch_model::limits::{COMPONENTS, EDGES};
