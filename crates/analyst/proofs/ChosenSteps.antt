@@ -1,13 +1,12 @@
 -- The sets of a chosen cut, as the code makes them.
 use Rattle.std.proofs.Common.{◌≡◌, ℕ, ◌+◌, ◌<◌, Bool, false, ◌||◌, nat_eq, List, [], ◌∷◌, map, fold, filter, length, take, get_or, Some, refl, sym, ap, ◌∙◌, arith, inl, inr}
-use Rattle.std.specs.Prelude.{◌↔◌, IsTrue, slice_get, IsSomeAnd}
+use Rattle.std.specs.Prelude.{◌↔◌, IsTrue, slice_get}
 use Rattle.std.specs.List.{range_with_len}
 use Rattle.std.proofs.lemmas.List.{take_more, map-append}
 use Rattle.std.proofs.lemmas.List.Sums.{fold_push}
-use Rattle.std.proofs.lemmas.Option.{slice_get_within, slice_get-get_or}
+use Rattle.std.proofs.lemmas.Option.{slice_get-get_or}
 use Rattle.arch_model.specs.declared.sets.VarId.{VarId}
 use Rattle.arch_model.specs.declared.library.Requirement.{Requirement}
-use Rattle.arch_model.specs.declared.template.Role.TheVariants.{Sink}
 use Rattle.arch_model.specs.Set.{Set, has, empty, put}
 use Rattle.arch_model.specs.Parts.{LibraryParts, ArchitectureParts}
 use Rattle.arch_model.specs.Library.{IsLibrary}
@@ -20,7 +19,6 @@ use Rattle.redundancy_cut.specs.Reaching.{reaches}
 use Rattle.redundancy_cut.specs.ChosenCut.{cone_of}
 use Rattle.redundancy_cut.proofs.NumberSets.{has-set_of_numbers}
 use Rattle.redundancy_cut.proofs.ReachingLaws.{reaches_exact, reaches_low, sink_reaches}
-use Rattle.redundancy_cut.proofs.RightCutsHold.{some_and, all_at}
 
 -- one more member put into the set of some
 pub set_more : (members : List VarId) (i : ℕ) (d : VarId) (set after : Set) → i < length members → set ≡ set_of_numbers (map (λ v. v.0) (take i members)) → after ≡ put set (get_or members i d).0

@@ -2,7 +2,6 @@
 use Rattle.std.proofs.Common.{◌≡◌, ℕ, ◌<◌, ◌≤◌, true, nat_eq, List, [], ◌∷◌, map, Option, Some, None, refl, sym, ap, subst, ◌∙◌, arith, eq-eqb}
 use Rattle.std.specs.Prelude.{nat_lt, option_and_then, IfSome, IsNone, if◌then◌else◌}
 use Rattle.std.specs.List.{All, AllByRecursion}
-use Rattle.std.specs.List.Sorted.{IsStrictlyIncreasing}
 use Rattle.std.proofs.lemmas.Bool.{lt-ltb, le-ltb}
 use Rattle.std.proofs.lemmas.List.Elements.{All-from_recursion}
 use Rattle.arch_model.specs.declared.sets.VarId.{VarId}
@@ -14,13 +13,13 @@ use Rattle.arch_model.specs.Library.{IsLibrary}
 use Rattle.arch_model.specs.Architecture.{IsArchitecture}
 use Rattle.arch_model.specs.Member.{is_in, member_count}
 use Rattle.arch_model.specs.CutSet.{IsMinimalCutSet}
-use Rattle.arch_model.specs.Weight.{product_of, weight_of, IsHeaviest}
+use Rattle.arch_model.specs.Weight.{product_of, IsHeaviest}
 use Rattle.arch_model.proofs.Members.{or_left, or_right}
 use Rattle.arch_model.proofs.Reaching.{present_small}
 use Rattle.redundancy_cut.specs.declared.cut.Cut.{Cut}
-use Rattle.redundancy_cut.specs.declared.cut.Cut.TheVariants.{Redundancy, NoGood}
+use Rattle.redundancy_cut.specs.declared.cut.Cut.TheVariants.{Redundancy}
 use Rattle.redundancy_cut.specs.CutRow.{set_of_numbers}
-use Rattle.redundancy_cut.specs.ChosenCut.{far_of, cone_of, redundancy_of, no_good_of}
+use Rattle.redundancy_cut.specs.ChosenCut.{far_of, redundancy_of}
 use Rattle.redundancy_cut.proofs.HeaviestFound.{heaviest_exact, some_heaviest}
 
 -- the numbers of a minimal cut set, as the code holds them

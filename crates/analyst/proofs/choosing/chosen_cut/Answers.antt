@@ -1,6 +1,5 @@
-use Rattle.std.proofs.Common.{◌≡◌, ◌∙◌, ◌+◌, ◌<◌, ℕ, Option, false, not, sym, subst, get_or, length, ap, arith}
+use Rattle.std.proofs.Common.{◌∙◌, ◌+◌, Option, not, sym, subst, get_or, length, ap, arith}
 use Rattle.std.proofs.lemmas.Option.{slice_get_within}
-use Rattle.std.specs.Prelude.{is_some}
 use Rattle.redundancy_cut.specs.declared.cut.Cut.{Cut}
 use Rattle.redundancy_cut.specs.ChosenCut.{redundancy_of, no_good_of}
 use Rattle.analyst.proofs.FirstCut.{IsFirst, returned, returned_none, none_more, first_none, first_step, first_kept, first_done}
