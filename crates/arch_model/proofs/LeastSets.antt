@@ -1,6 +1,6 @@
 -- A minimal cut set is a least set that parts the sink.
 use Rattle.std.proofs.Common.{◌≡◌, ℕ, Bool, true, false, not, ◌&&◌, nat_eq, List, refl, sym, ap, ◌∙◌, eq-eqb, inl, inr}
-use Rattle.std.specs.Prelude.{◌↔◌, IsTrue}
+use Rattle.std.specs.Prelude.{◌↔◌}
 use Rattle.std.specs.List.Sorted.{IsStrictlyIncreasing}
 use Rattle.std.proofs.lemmas.Bool.{eqb-true}
 use Rattle.arch_model.specs.Parts.{LibraryParts, ArchitectureParts}

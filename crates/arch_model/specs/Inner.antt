@@ -1,3 +1,5 @@
 -- What only the code's own contracts cite: no statement that a reader has to believe rests on it.
 pub mod NameBytes
 pub mod Words
+pub mod Sets
+pub mod Walks

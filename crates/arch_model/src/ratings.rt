@@ -9,10 +9,9 @@ use crate::sets::CompId;
 pub fn is_instance(lib: &Library, t: u32, c: CompId) -> bool
     ensures { result ≡ spec.is_instance lib.now t c.0 }
 {
-    match lib.components().get(c.0 as usize) {
-        Some(component) => component.of == t,
-        None => false,
-    }
+    lib.components()
+        .get(c.0 as usize)
+        .is_some_and(|component| component.of == t)
 }
 
 /// What component c supplies, in units of supply; 0 where there is no component c.

@@ -27,8 +27,10 @@ use Rattle.lib_read.specs.declared.fault.TableName.TheVariants.{Library, Types, 
 use Rattle.lib_read.specs.Tree.{text_at, rows_of}
 use Rattle.lib_read.specs.Schema.{table_keys}
 use Rattle.lib_read.specs.Faults.{fault, faulty_keys, row_faults, table_faults, class_faults, is_repeat, repeat_faults, repeated_names, repeated_links, link_ends, same_ends, plain_faults, judged_faults}
-use Rattle.lib_read.specs.Components.{instance_name, instance_names, component_names}
-use Rattle.lib_read.specs.Rows.{type_names, type_row, link_row, pattern_row, types_of, links_of, patterns_of, library_of_tree, PatternFits}
+use Rattle.lib_read.specs.Components.{instance_names, component_names}
+use Rattle.template.specs.Names.{instance_name}
+use Rattle.lib_read.specs.Rows.{type_names, type_row, link_row, pattern_row, types_of, links_of, patterns_of, library_of_tree}
+use Rattle.lib_read.specs.Inner.Building.{PatternFits}
 use Rattle.template.proofs.Numbers.{length-types-le}
 use Rattle.template.proofs.NameLaws.{instance_at}
 use Rattle.lib_read.proofs.ListFacts.{append_nil, map_nil, one_nil, flat_map_nil, all_index, all_rec, all_mapped, all_some, all_flat, all_of_map, values_all, length-values-le, none_passes}

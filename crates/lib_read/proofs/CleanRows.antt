@@ -15,7 +15,8 @@ use Rattle.lib_read.specs.Tree.{text_at, integer_at}
 use Rattle.lib_read.specs.Schema.{KeyRow, type_keys, link_keys, kind_keys, any_keys, row_kind, is_faulty, is_named, is_type_name, is_between}
 use Rattle.lib_read.specs.Faults.{faulty_keys, link_ends}
 use Rattle.lib_read.specs.Components.{number, component_names}
-use Rattle.lib_read.specs.Rows.{type_at, type_row, link_row, kind_row, pattern_row, KindFits, PatternFits}
+use Rattle.lib_read.specs.Rows.{type_at, type_row, link_row, kind_row, pattern_row}
+use Rattle.lib_read.specs.Inner.Building.{KindFits, PatternFits}
 use Rattle.arch_model.proofs.Members.{and_left, and_right}
 use Rattle.lib_read.proofs.ListFacts.{map_nil, filter_nil}
 

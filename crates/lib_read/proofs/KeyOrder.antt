@@ -1,5 +1,5 @@
 -- Keys in byte order: of each table, and of each row.
-use Rattle.std.proofs.Common.{◌≡◌, ◌≢◌, codes, ℕ, Bool, true, false, not, cond, List, [], ◌∷◌, map, filter, Option, Some, None, String, Global, string_bytes, refl, ap}
+use Rattle.std.proofs.Common.{◌≡◌, ◌≢◌, codes, ℕ, Bool, true, false, cond, List, [], ◌∷◌, map, filter, Option, Some, None, String, Global, string_bytes, refl}
 use Rattle.std.specs.List.{AllByRecursion}
 use Rattle.std.specs.List.Sorted.{IsStrictlySortedBy}
 use Rattle.std.specs.Map.{keys_of as entry_keys}
@@ -18,7 +18,7 @@ use Rattle.lib_read.specs.declared.schema.Kind.TheVariants.{Count, InDegree, Out
 use Rattle.lib_read.specs.Fault.{text_cmp}
 use Rattle.lib_read.specs.Tree.{keys_of}
 use Rattle.lib_read.specs.Schema.{KeyRow, kind_keys, any_keys, row_kind, table_keys, is_faulty}
-use Rattle.lib_read.specs.Faults.{is_known, faulty_keys}
+use Rattle.lib_read.specs.Faults.{faulty_keys}
 
 abbrev pub Ascend : List (List ℕ) → Type 0
 Ascend ks = IsStrictlySortedBy text_cmp ks
@@ -104,15 +104,6 @@ of_table top names class keys (float x) ms is other = absurd (cc)
 of_table top names class keys (boolean b) ms is other = absurd (cc)
 of_table top names class keys (datetime dt) ms is other = absurd (cc)
 of_table top names class keys (array ds) ms is other = absurd (cc)
-
-pub unknown_of_table : (top : Data) (names : List (List ℕ)) (keys : List KeyRow) (row : Data) (ms : Members) → Some ms ≡ as_table row → faulty_keys top [] UnknownKey keys (table ms) ≡ faulty_keys top names UnknownKey keys row
-unknown_of_table top names keys (table ns) ms is = let same : ms ≡ ns = cc in ap (λ l. filter (λ name. not (is_known keys name)) (keys_of l)) same
-unknown_of_table top names keys (string s) ms is = absurd (cc)
-unknown_of_table top names keys (integer z) ms is = absurd (cc)
-unknown_of_table top names keys (float x) ms is = absurd (cc)
-unknown_of_table top names keys (boolean b) ms is = absurd (cc)
-unknown_of_table top names keys (datetime dt) ms is = absurd (cc)
-unknown_of_table top names keys (array ds) ms is = absurd (cc)
 
 pub wrong_kind : (top : Data) (names : List (List ℕ)) (keys : List KeyRow) (row : Data) → None ≡ as_table row → faulty_keys top names WrongKind keys row ≡ codes "-" ∷ []
 wrong_kind top names keys (table ns) is = absurd (cc)

@@ -3,7 +3,6 @@ use Rattle.std.proofs.Common.{◌≡◌, ℕ, ◌+◌, ◌<◌, ◌≤◌, Bool,
 use Rattle.std.specs.List.{AllByRecursion, best_of, flat_map, enumerate_from}
 use Rattle.std.specs.List.Sorted.{IsStrictlySortedBy}
 use Rattle.std.specs.Ordering.{nat_cmp, is_lt}
-use Rattle.std.specs.declared.cmp.Ordering.{Ordering}
 use Rattle.std.specs.declared.cmp.Ordering.TheVariants.{Less, Equal, Greater}
 use Rattle.std.proofs.lemmas.Cmp.{nat_list_cmp_total}
 use Rattle.std.proofs.lemmas.Bool.{le-ltb}
@@ -14,8 +13,9 @@ use Rattle.lib_read.specs.declared.fault.TableName.{TableName}
 use Rattle.lib_read.specs.declared.fault.LibFault.{LibFault}
 use Rattle.lib_read.specs.declared.fault.Stop.{Stop}
 use Rattle.lib_read.specs.declared.fault.Stop.TheVariants.{Memory, Fault as Found}
-use Rattle.lib_read.specs.Fault.{class_rank, table_rank, text_cmp, fault_cmp, least, first}
-use Rattle.lib_read.specs.Keys.{fault_view, StopsAt}
+use Rattle.lib_read.specs.Fault.{class_rank, table_rank, text_cmp, fault_cmp, least}
+use Rattle.lib_read.specs.Inner.Passes.{first}
+use Rattle.lib_read.specs.Inner.Keys.{fault_view, StopsAt}
 use Rattle.lib_read.specs.Faults.{fault}
 
 -- g doesn't come before f
@@ -88,9 +88,6 @@ later_table f g same h = rw (same, level (class_rank f.class), above (table_rank
 
 pub later_position : (f g : LibFault) → g.class ≡ f.class → g.table ≡ f.table → f.position < g.position → NotBefore f g
 later_position f g same table h = rw (same, table, level (class_rank f.class), level (table_rank f.table), above f.position g.position h)
-
-flipped : (a b : Ordering) → a ≡ Less → b ≡ Greater → is_lt b ≡ false
-flipped a b e f = rw f
 
 later_key : (c : LibClass) (t : TableName) (n : ℕ) (k l : List ℕ) → text_cmp k l ≡ Less → NotBefore (fault c t n k) (fault c t n l)
 later_key c t n k l h =

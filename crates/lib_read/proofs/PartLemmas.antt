@@ -56,9 +56,6 @@ module _ (names : List (List ℕ)) (c : LibClass) (top : Data) where
   pub in_links : (f : LibFault) → None ≡ least (row_faults top names c Library 0 top) → None ≡ least (table_faults names c Types top) → Some f ≡ least (table_faults names c Links top) → Some f ≡ least (class_faults names c top)
   in_links f e g h = sym (past_types e g ∙ least-here (table_faults names c Links top) (table_faults names c Patterns top) f links_next h)
 
-  pub in_patterns : (o : Option LibFault) → None ≡ least (row_faults top names c Library 0 top) → None ≡ least (table_faults names c Types top) → None ≡ least (table_faults names c Links top) → o ≡ least (table_faults names c Patterns top) → o ≡ least (class_faults names c top)
-  in_patterns o e g h k = k ∙ sym (past_types e g ∙ least-past (table_faults names c Links top) (table_faults names c Patterns top) h)
-
   of_class : AllByRecursion (λ f. f.class ≡ c) (class_faults names c top)
   of_class = all_both (λ f. f.class ≡ c) (row_faults top names c Library 0 top) (table_faults names c Types top ++ (table_faults names c Links top ++ table_faults names c Patterns top))
       (all_weaker (InRow c Library 0) (λ f. f.class ≡ c) (λ f h. h.class) (row_faults top names c Library 0 top) (row_faults_in c Library 0 (faulty_keys top names c (table_keys Library top) top)))

@@ -13,7 +13,7 @@ use Rattle.lib_read.specs.declared.fault.LibClass.TheVariants.{TooLarge, NotToml
 use Rattle.lib_read.specs.declared.fault.TableName.TheVariants.{Library}
 use Rattle.lib_read.specs.declared.fault.LibError.{LibError}
 use Rattle.lib_read.specs.declared.fault.LibError.TheVariants as error
-use Rattle.lib_read.specs.Keys.{Tells}
+use Rattle.lib_read.specs.Inner.Keys.{Tells}
 use Rattle.lib_read.specs.Faults.{fault, faults_of}
 use Rattle.lib_read.specs.LibraryOf.{judged, library_of, FaultOf}
 

@@ -1,5 +1,6 @@
 -- Worked rows: what the definition gives for some texts.
-use Rattle.std.proofs.Common.{◌≡◌, codes, [], ◌∷◌, None, Ok, Err, refl}
+use Rattle.std.proofs.Common.{◌≡◌, ℕ, List, length, codes, [], ◌∷◌, None, Ok, Err, refl, arith, lt-ltb}
+use Rattle.std.proofs.lemmas.Bool.{le-ltb}
 use Rattle.std.specs.Str.{chars, is_utf8}
 use Rattle.toml.proofs.OnLiterals.{toml_on_literals}
 use Rattle.arch_model.specs.declared.template.Role.TheVariants.{Source, Middle, Sink}
@@ -8,11 +9,24 @@ use Rattle.arch_model.specs.declared.library.LinkRow.{LinkRow}
 use Rattle.arch_model.specs.declared.library.Pattern.TheVariants.{Count}
 use Rattle.arch_model.specs.Library.{library_parts}
 use Rattle.arch_model.specs.Template.{template_of}
-use Rattle.lib_read.specs.declared.fault.LibClass.TheVariants.{NotToml, UnknownKey, MissingKey, WrongKind, BadName, Duplicate, UnknownName, Range}
+use Rattle.lib_read.specs.declared.fault.LibClass.TheVariants.{TooLarge, NotToml, UnknownKey, MissingKey, WrongKind, BadName, Duplicate, UnknownName, Range}
 use Rattle.lib_read.specs.declared.fault.TableName.TheVariants.{Library, Types, Links, Patterns}
 use Rattle.lib_read.specs.Tree.{tree_of}
 use Rattle.lib_read.specs.Faults.{fault}
-use Rattle.lib_read.specs.LibraryOf.{library_of}
+use Rattle.lib_read.specs.LibraryOf.{library_of, of_tree}
+use Rattle.lib_read.specs.declared.reader.TheConstants.{LARGEST}
+
+-- how many bytes a file may have
+largest : LARGEST ≡ 1048576
+largest = refl
+
+file_at-limit : (bytes : List ℕ) → length bytes ≡ 1048576 → library_of bytes ≡ of_tree (tree_of bytes)
+unfolding library_of
+file_at-limit bytes long = rw (le-ltb 1048576 (length bytes) (omega (arith, long))) refl
+
+file_past-limit : (bytes : List ℕ) → length bytes ≡ 1048577 → library_of bytes ≡ Err (fault TooLarge Library 0 (codes "-"))
+unfolding library_of
+file_past-limit bytes long = rw (lt-ltb 1048576 (length bytes) (omega (arith, long))) refl
 
 no_array : library_of (codes "type = 1") ≡ Err (fault WrongKind Library 0 (codes "type"))
 unfolding toml_on_literals library_of tree_of is_utf8 chars

@@ -1,9 +1,8 @@
 -- The names of components, as a document's types give them.
-use Rattle.std.specs.Prelude.{codes, ℕ, ℤ, pos, negsuc, List, [], ◌++◌, map, Option, option_map, unwrap_or}
-use Rattle.std.specs.Fmt.{decimal}
+use Rattle.std.specs.Prelude.{codes, ℕ, ℤ, pos, negsuc, List, [], map, Option, option_map, unwrap_or}
 use Rattle.std.specs.List.{flat_map, range_with_len}
 use Rattle.toml.specs.Data.{Data}
-use Rattle.arch_model.specs.declared.library.TypeRow.{TypeRow}
+use Rattle.template.specs.Names.{instance_name}
 use Rattle.lib_read.specs.declared.fault.TableName.TheVariants.{Types}
 use Rattle.lib_read.specs.Tree.{text_at, integer_at, rows_of}
 
@@ -19,14 +18,6 @@ number_at key row = option_map number (integer_at key row)
 -- the number at a key, or the one that stands for an absent one
 abbrev pub number_or : ℕ → List ℕ → Data → ℕ
 number_or absent key row = unwrap_or (number_at key row) absent
-
--- the name of an instance: its type's name, a dot and its index in decimal
-abbrev pub instance_name : List ℕ → ℕ → List ℕ
-instance_name name index = name ++ codes "." ++ decimal index
-
--- the names of the instances of a type that was read
-abbrev pub names_of_type : TypeRow → List (List ℕ)
-names_of_type row = map (instance_name row.name) (range_with_len 1 row.max)
 
 -- the names of a type's instances, from 1 to its `max` as it is written
 abbrev pub instance_names : Data → List (List ℕ)

@@ -51,8 +51,3 @@ fault_cmp a b =
 abbrev pub least : List LibFault → Option LibFault
 least [] = None
 least (f ∷ fs) = Some (best_of (λ a b. is_lt (fault_cmp a b)) f fs)
-
--- the first item of a list
-abbrev pub first : {X : Type 0} → List X → Option X
-first [] = None
-first (x ∷ xs) = Some x

@@ -1,5 +1,5 @@
 -- The library that a document without a fault is.
-use Rattle.std.specs.Prelude.{codes, ℕ, List, [], map, Option, option_map, unwrap_or, position, IfSome}
+use Rattle.std.specs.Prelude.{codes, ℕ, List, [], map, Option, option_map, unwrap_or, position}
 use Rattle.std.specs.Option.{option_and_then}
 use Rattle.std.specs.List.{filter_map}
 use Rattle.std.specs.Str.{bytes_eq}
@@ -11,7 +11,7 @@ use Rattle.arch_model.specs.declared.library.LinkRow.{LinkRow}
 use Rattle.arch_model.specs.declared.library.Pattern.{Pattern}
 use Rattle.arch_model.specs.declared.library.Pattern.TheVariants as pattern
 use Rattle.arch_model.specs.Parts.{LibraryParts}
-use Rattle.arch_model.specs.Library.{library_parts, AreBounds}
+use Rattle.arch_model.specs.Library.{library_parts}
 use Rattle.arch_model.specs.Template.{template_of}
 use Rattle.lib_read.specs.declared.fault.TableName.TheVariants.{Types, Links, Patterns}
 use Rattle.lib_read.specs.declared.schema.Kind.{Kind}
@@ -77,17 +77,6 @@ kind_row names components row CostCap = pattern.CostCap (number_or 0 (codes "max
 -- the pattern of a row, where its kind is one of the ten words
 abbrev pub pattern_row : List (List ℕ) → List (List ℕ) → Data → Option Pattern
 pattern_row names components row = option_map (kind_row names components row) (row_kind row)
-
--- the least and greatest number of a pattern's row, where its kind has them, are in their ranges
-abbrev pub KindFits : Data → Kind → Type 0
-KindFits row Count = AreBounds (least_of row) (most_of row)
-KindFits row InDegree = AreBounds (least_of row) (most_of row)
-KindFits row OutDegree = AreBounds (least_of row) (most_of row)
-KindFits row _ = Unit {0}
-
--- so are those of a row of any kind
-abbrev pub PatternFits : Data → Type 0
-PatternFits row = IfSome (row_kind row) (KindFits row)
 
 -- the types of a document
 abbrev pub types_of : Data → List TypeRow

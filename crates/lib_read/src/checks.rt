@@ -2,7 +2,7 @@
 ghost use Rattle.std.specs.Prelude.{◌≡◌, false, is_some, []};
 ghost use Rattle.toml.specs.View.{view};
 ghost use Rattle.lib_read.specs.Schema as spec;
-ghost use Rattle.lib_read.specs.Keys.{key_view};
+ghost use Rattle.lib_read.specs.Inner.Keys.{key_view};
 ghost use Rattle.std.specs.List.{list_all};
 ghost use Rattle.std.specs.Option.{option_copied, option_map_or};
 ghost use Rattle.std.specs.Str.{bytes_eq};

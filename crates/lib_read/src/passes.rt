@@ -5,10 +5,11 @@ ghost use Rattle.std.specs.List.Sorted.{IsStrictlySortedBy};
 ghost use Rattle.std.specs.Option.{option_copied};
 ghost use Rattle.toml.specs.Data.{table};
 ghost use Rattle.toml.specs.View.{view, table_view};
-ghost use Rattle.lib_read.specs.Fault.{first, least, text_cmp};
+ghost use Rattle.lib_read.specs.Fault.{least, text_cmp};
+ghost use Rattle.lib_read.specs.Inner.Passes.{first};
 ghost use Rattle.lib_read.specs.Tree as tree;
 ghost use Rattle.lib_read.specs.Schema as spec;
-ghost use Rattle.lib_read.specs.Keys.{key_view, fault_view, StopsAt};
+ghost use Rattle.lib_read.specs.Inner.Keys.{key_view, fault_view, StopsAt};
 ghost use Rattle.lib_read.specs.Rows as rows;
 ghost use Rattle.lib_read.specs.Faults as faults;
 
@@ -110,15 +111,13 @@ pub(crate) fn row_fault<'a>(
     ensures { option_map fault_view result
         ≡ least (faults.row_faults (view top.now) names.now class table position (view row.now)) }
 {
-    match row_key(class, table_keys(table, row), row, names, top) {
-        Some(key) => Some(Fault {
-            class,
-            table,
-            position,
-            key,
-        }),
-        None => None,
-    }
+    let key = row_key(class, table_keys(table, row), row, names, top)?;
+    Some(Fault {
+        class,
+        table,
+        position,
+        key,
+    })
 }
 
 // The first fault of a class in a table's rows.

@@ -5,7 +5,7 @@ ghost use Rattle.lib_read.specs.Fault.{least};
 ghost use Rattle.lib_read.specs.Tree.{tree_of};
 ghost use Rattle.lib_read.specs.Faults as faults;
 ghost use Rattle.lib_read.specs.Rows as rows;
-ghost use Rattle.lib_read.specs.Keys.{StopsAt, Tells, fault_view};
+ghost use Rattle.lib_read.specs.Inner.Keys.{StopsAt, Tells, fault_view};
 ghost use Rattle.lib_read.specs.LibraryOf.{judged, library_of, FaultOf};
 
 use crate::components::component_names;

@@ -4,7 +4,7 @@ ghost use Rattle.toml.specs.View.{view};
 ghost use Rattle.lib_read.specs.Fault.{least};
 ghost use Rattle.lib_read.specs.Faults as faults;
 ghost use Rattle.lib_read.specs.Rows as rows;
-ghost use Rattle.lib_read.specs.Keys.{StopsAt};
+ghost use Rattle.lib_read.specs.Inner.Keys.{StopsAt};
 
 use crate::fault::{Fault, LibClass, Stop, TableName};
 use crate::names::{Names, Pairs};
@@ -46,13 +46,7 @@ pub(crate) fn type_names<'a>(alloc: Global, top: &'a Value) -> Result<Names<'a>,
 fn link_ends(row: &Value) -> Option<(&str, &str)>
     ensures { option_map (λ p. (p.0.now, p.1.now)) result ≡ faults.link_ends (view row.now) }
 {
-    match text_at(row, "from") {
-        Some(from) => match text_at(row, "to") {
-            Some(to) => Some((from, to)),
-            None => None,
-        },
-        None => None,
-    }
+    Some((text_at(row, "from")?, text_at(row, "to")?))
 }
 
 // Whether no two links have the same pair of types.

@@ -4,6 +4,7 @@ ghost use Rattle.std.specs.List.{All};
 ghost use Rattle.toml.specs.View.{view};
 ghost use Rattle.arch_model.specs.Library.{IsTypeRow};
 ghost use Rattle.lib_read.specs.Rows as rows;
+ghost use Rattle.lib_read.specs.Inner.Building.{KindFits, PatternFits};
 ghost use Rattle.lib_read.specs.Components as comps;
 ghost use Rattle.lib_read.specs.Tree as tree;
 
@@ -20,10 +21,7 @@ use toml::Value;
 fn number_at(row: &Value, key: &str) -> Option<u64>
     ensures { result ≡ comps.number_at key.now (view row.now) }
 {
-    match integer_at(row, key) {
-        Some(z) => Some(u64::try_from(z).unwrap_or(0)),
-        None => None,
-    }
+    Some(u64::try_from(integer_at(row, key)?).unwrap_or(0))
 }
 
 // The number at a key, and the one that stands for an absent one.
@@ -134,17 +132,14 @@ fn most_of(row: &Value) -> Option<u32>
     requires { IfSome (rows.most_of (view row.now)) (λ m. m ≤ 512) }
     ensures { result ≡ rows.most_of (view row.now) }
 {
-    match number_at(row, "max") {
-        Some(max) => Some(max as u32),
-        None => None,
-    }
+    Some(number_at(row, "max")? as u32)
 }
 
 // The pattern of a kind that a row is.
 fn kind_row(row: &Value, kind: Kind, names: &Names, components: &[String]) -> Pattern
     requires names { length names.now ≤ 64 }
     requires components { length components.now ≤ 64 }
-    requires fits { rows.KindFits (view row.now) kind }
+    requires fits { KindFits (view row.now) kind }
     ensures { result ≡ rows.kind_row names.now (map string_bytes components.now) (view row.now) kind }
 {
     let of = type_at(row, "type", names);
@@ -186,13 +181,10 @@ fn kind_row(row: &Value, kind: Kind, names: &Names, components: &[String]) -> Pa
 fn pattern_row(row: &Value, names: &Names, components: &[String]) -> Option<Pattern>
     requires names { length names.now ≤ 64 }
     requires components { length components.now ≤ 64 }
-    requires fits { rows.PatternFits (view row.now) }
+    requires fits { PatternFits (view row.now) }
     ensures { result ≡ rows.pattern_row names.now (map string_bytes components.now) (view row.now) }
 {
-    match row_kind(row) {
-        Some(kind) => Some(kind_row(row, kind, names, components)),
-        None => None,
-    }
+    Some(kind_row(row, row_kind(row)?, names, components))
 }
 
 // The patterns of a document, whose types have these names.
@@ -204,7 +196,7 @@ pub(crate) fn pattern_rows(
 ) -> Result<Vec<Pattern>, Memory>
     requires names { length names.now ≤ 64 }
     requires components { length components.now ≤ 64 }
-    requires fit { All rows.PatternFits (tree.rows_of TableName.Patterns (view top.now)) }
+    requires fit { All PatternFits (tree.rows_of TableName.Patterns (view top.now)) }
     ensures { IfOk result
         (λ patterns. patterns.items ≡ rows.patterns_by names.now (map string_bytes components.now) (view top.now)) }
 {

@@ -2,7 +2,7 @@
 ghost use Rattle.std.specs.Prelude.{◌≡◌, map};
 ghost use Rattle.toml.specs.View.{view};
 ghost use Rattle.lib_read.specs.Schema as spec;
-ghost use Rattle.lib_read.specs.Keys.{key_view};
+ghost use Rattle.lib_read.specs.Inner.Keys.{key_view};
 
 use crate::fault::TableName;
 use crate::values::text_at;
@@ -57,330 +57,142 @@ pub(crate) struct Key {
     pub(crate) meaning: Meaning,
 }
 
+// A cost, a supply or a demand.
 const COST: Meaning = Meaning::Number {
     low: 0,
     high: 1_000_000_000_000,
 };
 
+// A failure rate in parts per million.
+const RATE: Meaning = Meaning::Number {
+    low: 0,
+    high: 1_000_000,
+};
+
+// How many instances a type may have.
+const INSTANCES: Meaning = Meaning::Number { low: 1, high: 64 };
+
+// A least or greatest number of a pattern.
+const BOUND: Meaning = Meaning::Number { low: 0, high: 512 };
+
+// A cost of all.
 const TOTAL: Meaning = Meaning::Number {
     low: 0,
     high: 1_000_000_000_000_000,
 };
 
-const DEGREE: Meaning = Meaning::Number { low: 0, high: 512 };
+// A key that is required. A macro, since no static may call a function.
+macro_rules! needs {
+    ($name:literal, $meaning:expr) => {
+        Key {
+            name: $name,
+            required: true,
+            meaning: $meaning,
+        }
+    };
+}
+
+// A key that may be absent.
+macro_rules! takes {
+    ($name:literal, $meaning:expr) => {
+        Key {
+            name: $name,
+            required: false,
+            meaning: $meaning,
+        }
+    };
+}
 
 static LIBRARY_KEYS: [Key; 3] = [
-    Key {
-        name: "link",
-        required: false,
-        meaning: Meaning::Rows,
-    },
-    Key {
-        name: "pattern",
-        required: false,
-        meaning: Meaning::Rows,
-    },
-    Key {
-        name: "type",
-        required: false,
-        meaning: Meaning::Rows,
-    },
+    takes!("link", Meaning::Rows),
+    takes!("pattern", Meaning::Rows),
+    takes!("type", Meaning::Rows),
 ];
 
 static TYPE_KEYS: [Key; 7] = [
-    Key {
-        name: "cost",
-        required: false,
-        meaning: COST,
-    },
-    Key {
-        name: "demand",
-        required: false,
-        meaning: COST,
-    },
-    Key {
-        name: "fail",
-        required: false,
-        meaning: Meaning::Number {
-            low: 0,
-            high: 1_000_000,
-        },
-    },
-    Key {
-        name: "max",
-        required: false,
-        meaning: Meaning::Number { low: 1, high: 64 },
-    },
-    Key {
-        name: "name",
-        required: true,
-        meaning: Meaning::NewName,
-    },
-    Key {
-        name: "role",
-        required: true,
-        meaning: Meaning::RoleWord,
-    },
-    Key {
-        name: "supply",
-        required: false,
-        meaning: COST,
-    },
+    takes!("cost", COST),
+    takes!("demand", COST),
+    takes!("fail", RATE),
+    takes!("max", INSTANCES),
+    needs!("name", Meaning::NewName),
+    needs!("role", Meaning::RoleWord),
+    takes!("supply", COST),
 ];
 
 static LINK_KEYS: [Key; 3] = [
-    Key {
-        name: "cost",
-        required: false,
-        meaning: COST,
-    },
-    Key {
-        name: "from",
-        required: true,
-        meaning: Meaning::TypeName,
-    },
-    Key {
-        name: "to",
-        required: true,
-        meaning: Meaning::TypeName,
-    },
+    takes!("cost", COST),
+    needs!("from", Meaning::TypeName),
+    needs!("to", Meaning::TypeName),
 ];
 
 static COUNT_KEYS: [Key; 4] = [
-    Key {
-        name: "kind",
-        required: true,
-        meaning: Meaning::KindWord,
-    },
-    Key {
-        name: "max",
-        required: false,
-        meaning: DEGREE,
-    },
-    Key {
-        name: "min",
-        required: false,
-        meaning: DEGREE,
-    },
-    Key {
-        name: "type",
-        required: true,
-        meaning: Meaning::TypeName,
-    },
+    needs!("kind", Meaning::KindWord),
+    takes!("max", BOUND),
+    takes!("min", BOUND),
+    needs!("type", Meaning::TypeName),
 ];
 
 static INDEGREE_KEYS: [Key; 5] = [
-    Key {
-        name: "from",
-        required: true,
-        meaning: Meaning::TypeName,
-    },
-    Key {
-        name: "kind",
-        required: true,
-        meaning: Meaning::KindWord,
-    },
-    Key {
-        name: "max",
-        required: false,
-        meaning: DEGREE,
-    },
-    Key {
-        name: "min",
-        required: false,
-        meaning: DEGREE,
-    },
-    Key {
-        name: "type",
-        required: true,
-        meaning: Meaning::TypeName,
-    },
+    needs!("from", Meaning::TypeName),
+    needs!("kind", Meaning::KindWord),
+    takes!("max", BOUND),
+    takes!("min", BOUND),
+    needs!("type", Meaning::TypeName),
 ];
 
 static OUTDEGREE_KEYS: [Key; 5] = [
-    Key {
-        name: "kind",
-        required: true,
-        meaning: Meaning::KindWord,
-    },
-    Key {
-        name: "max",
-        required: false,
-        meaning: DEGREE,
-    },
-    Key {
-        name: "min",
-        required: false,
-        meaning: DEGREE,
-    },
-    Key {
-        name: "to",
-        required: true,
-        meaning: Meaning::TypeName,
-    },
-    Key {
-        name: "type",
-        required: true,
-        meaning: Meaning::TypeName,
-    },
+    needs!("kind", Meaning::KindWord),
+    takes!("max", BOUND),
+    takes!("min", BOUND),
+    needs!("to", Meaning::TypeName),
+    needs!("type", Meaning::TypeName),
 ];
 
 static IN_NEEDS_OUT_KEYS: [Key; 4] = [
-    Key {
-        name: "from",
-        required: true,
-        meaning: Meaning::TypeName,
-    },
-    Key {
-        name: "kind",
-        required: true,
-        meaning: Meaning::KindWord,
-    },
-    Key {
-        name: "to",
-        required: true,
-        meaning: Meaning::TypeName,
-    },
-    Key {
-        name: "type",
-        required: true,
-        meaning: Meaning::TypeName,
-    },
+    needs!("from", Meaning::TypeName),
+    needs!("kind", Meaning::KindWord),
+    needs!("to", Meaning::TypeName),
+    needs!("type", Meaning::TypeName),
 ];
 
 static EXCLUSIVE_KEYS: [Key; 4] = [
-    Key {
-        name: "a",
-        required: true,
-        meaning: Meaning::TypeName,
-    },
-    Key {
-        name: "b",
-        required: true,
-        meaning: Meaning::OtherName,
-    },
-    Key {
-        name: "kind",
-        required: true,
-        meaning: Meaning::KindWord,
-    },
-    Key {
-        name: "type",
-        required: true,
-        meaning: Meaning::TypeName,
-    },
+    needs!("a", Meaning::TypeName),
+    needs!("b", Meaning::OtherName),
+    needs!("kind", Meaning::KindWord),
+    needs!("type", Meaning::TypeName),
 ];
 
 static IMPLIES_KEYS: [Key; 3] = [
-    Key {
-        name: "a",
-        required: true,
-        meaning: Meaning::TypeName,
-    },
-    Key {
-        name: "b",
-        required: true,
-        meaning: Meaning::TypeName,
-    },
-    Key {
-        name: "kind",
-        required: true,
-        meaning: Meaning::KindWord,
-    },
+    needs!("a", Meaning::TypeName),
+    needs!("b", Meaning::TypeName),
+    needs!("kind", Meaning::KindWord),
 ];
 
 static FORBID_KEYS: [Key; 3] = [
-    Key {
-        name: "from",
-        required: true,
-        meaning: Meaning::ComponentName,
-    },
-    Key {
-        name: "kind",
-        required: true,
-        meaning: Meaning::KindWord,
-    },
-    Key {
-        name: "to",
-        required: true,
-        meaning: Meaning::ComponentName,
-    },
+    needs!("from", Meaning::ComponentName),
+    needs!("kind", Meaning::KindWord),
+    needs!("to", Meaning::ComponentName),
 ];
 
-static TOTAL_SUPPLY_KEYS: [Key; 1] = [Key {
-    name: "kind",
-    required: true,
-    meaning: Meaning::KindWord,
-}];
+static TOTAL_SUPPLY_KEYS: [Key; 1] = [needs!("kind", Meaning::KindWord)];
 
 static LOCAL_SUPPLY_KEYS: [Key; 2] = [
-    Key {
-        name: "kind",
-        required: true,
-        meaning: Meaning::KindWord,
-    },
-    Key {
-        name: "type",
-        required: true,
-        meaning: Meaning::TypeName,
-    },
+    needs!("kind", Meaning::KindWord),
+    needs!("type", Meaning::TypeName),
 ];
 
-static COST_CAP_KEYS: [Key; 2] = [
-    Key {
-        name: "kind",
-        required: true,
-        meaning: Meaning::KindWord,
-    },
-    Key {
-        name: "max",
-        required: true,
-        meaning: TOTAL,
-    },
-];
+static COST_CAP_KEYS: [Key; 2] = [needs!("kind", Meaning::KindWord), needs!("max", TOTAL)];
 
 // The keys of a pattern whose kind isn't one of the words: those of any kind.
 static ANY_KEYS: [Key; 8] = [
-    Key {
-        name: "a",
-        required: false,
-        meaning: Meaning::Text,
-    },
-    Key {
-        name: "b",
-        required: false,
-        meaning: Meaning::Text,
-    },
-    Key {
-        name: "from",
-        required: false,
-        meaning: Meaning::Text,
-    },
-    Key {
-        name: "kind",
-        required: true,
-        meaning: Meaning::KindWord,
-    },
-    Key {
-        name: "max",
-        required: false,
-        meaning: Meaning::Integer,
-    },
-    Key {
-        name: "min",
-        required: false,
-        meaning: Meaning::Integer,
-    },
-    Key {
-        name: "to",
-        required: false,
-        meaning: Meaning::Text,
-    },
-    Key {
-        name: "type",
-        required: false,
-        meaning: Meaning::Text,
-    },
+    takes!("a", Meaning::Text),
+    takes!("b", Meaning::Text),
+    takes!("from", Meaning::Text),
+    needs!("kind", Meaning::KindWord),
+    takes!("max", Meaning::Integer),
+    takes!("min", Meaning::Integer),
+    takes!("to", Meaning::Text),
+    takes!("type", Meaning::Text),
 ];
 
 // The role that a text is.
@@ -431,10 +243,7 @@ pub(crate) fn kind_of(text: &str) -> Option<Kind>
 pub(crate) fn row_kind(row: &Value) -> Option<Kind>
     ensures { result ≡ spec.row_kind (view row.now) }
 {
-    match text_at(row, "kind") {
-        Some(text) => kind_of(text),
-        None => None,
-    }
+    kind_of(text_at(row, "kind")?)
 }
 
 // The keys of a pattern of a kind.

@@ -1,4 +1,4 @@
-use crate::{LARGEST, LibError, read_library};
+use crate::{LibError, read_library};
 use arch_model::{Pattern, Role};
 use std::alloc::Global;
 use std::test::Fail;
@@ -576,7 +576,7 @@ pattern = [
 // 31 + 32 + 1 components, 8 * 32 + 32 * 8 edges, 200 patterns.
 #[test]
 fn faults_come_by_class_then_table_then_place_then_key(rt: HostRuntime) -> Result<(), Fail> {
-    let padding = "#".repeat(rt.alloc(), LARGEST)?;
+    let padding = "#".repeat(rt.alloc())?;
     let counts = "  {kind = \"count\", type = \"a\"},\n".repeat(rt.alloc(), 200)?;
     let mut text = format!(in rt.alloc(); "{FAULTY}{counts}]\nw = 1\nv = [\n")?;
     let padded = format!(in rt.alloc(); "{text}{padding}")?;
@@ -679,8 +679,8 @@ fn bytes_are_refused(rt: HostRuntime) -> Result<(), Fail> {
     let read = reading(rt.alloc(), &[255])?;
     assert_eq!(rt; read.as_str(), "NotToml Library 0 -");
     for (n, said) in [
-        (LARGEST, "a library"),
-        (LARGEST + 1, "TooLarge Library 0 -"),
+        (1_048_576, "a library"),
+        (1_048_577, "TooLarge Library 0 -"),
     ] {
         let blank = vec![in rt.alloc(); b'\n'; n]?;
         let read = reading(rt.alloc(), &blank)?;

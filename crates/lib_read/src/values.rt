@@ -11,20 +11,14 @@ use toml::Value;
 pub(crate) fn text_at<'a>(row: &'a Value, key: &str) -> Option<&'a str>
     ensures { option_copied result ≡ tree.text_at key.now (view row.now) }
 {
-    match row.get(key) {
-        Some(value) => value.as_str(),
-        None => None,
-    }
+    row.get(key)?.as_str()
 }
 
 // The integer at a key.
 pub(crate) fn integer_at(row: &Value, key: &str) -> Option<i64>
     ensures { result ≡ tree.integer_at key.now (view row.now) }
 {
-    match row.get(key) {
-        Some(value) => value.as_integer(),
-        None => None,
-    }
+    row.get(key)?.as_integer()
 }
 
 // The key under which a table's rows stand.

@@ -4,8 +4,8 @@ use Rattle.std.specs.Str.{bytes_eq}
 use Rattle.outside.specs.declared.counts.Counts.{Counts}
 use Rattle.outside.specs.Named.{item_of, changed_at}
 use Rattle.outside.specs.Told.{Finds}
-use Rattle.outside.specs.Failing.{FailingCalls, passes, after_call}
-use Rattle.outside.specs.Kept.{Kept, KeptFile, told_of, call_passes, append_passes, has_room, with_counts, after_put, after_change, after_fault, after_read}
+use Rattle.outside.specs.Inner.Failing.{FailingCalls, passes, after_call}
+use Rattle.outside.specs.Inner.Kept.{Kept, KeptFile, told_of, call_passes, append_passes, has_room, with_counts, after_put, after_change, after_fault, after_read}
 use Rattle.outside.proofs.NamedLaws.{item_of-place, changed_at-place, item_of-missing}
 
 -- a shelf of its parts

@@ -3,3 +3,4 @@ pub mod KeptLaws
 pub mod KeptSteps
 pub mod NamedLaws
 pub mod SureLaws
+pub mod WorkedRows

@@ -1,6 +1,6 @@
 // Calls that are made to fail, for tests of what their callers do.
 ghost use Rattle.std.specs.Prelude.{◌≡◌, IfOk};
-ghost use Rattle.outside.specs.Failing.{passes, after_call};
+ghost use Rattle.outside.specs.Inner.Failing.{passes, after_call};
 
 use crate::faults::Memory;
 use std::alloc::Global;
@@ -14,7 +14,7 @@ pub struct FailingCalls {
 }
 
 impl Model for FailingCalls {
-    ghost use Rattle.outside.specs.Failing.{FailingCalls};
+    ghost use Rattle.outside.specs.Inner.Failing.{FailingCalls};
 
     ghost Value = { FailingCalls };
 

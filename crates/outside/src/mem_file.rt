@@ -1,8 +1,8 @@
 // A file that a shelf in memory keeps.
 ghost use Rattle.std.specs.Prelude.{◌≡◌, true, [], length, IfOk};
 ghost use Rattle.std.specs.Str.{bytes_eq};
-ghost use Rattle.outside.specs.Counts.{after_failed_read, after_failed_write};
-ghost use Rattle.outside.specs.Kept.{has_room, with_bytes, with_counts, with_piece, new_file};
+ghost use Rattle.outside.specs.Inner.Counts.{after_failed_read, after_failed_write};
+ghost use Rattle.outside.specs.Inner.Kept.{has_room, with_bytes, with_counts, with_piece, new_file};
 
 use crate::counts::Counts;
 use crate::faults::Memory;
@@ -20,7 +20,7 @@ pub struct MemFile {
 
 impl Model for MemFile {
     ghost use Rattle.std.specs.Prelude.{ℕ, ◌≤◌, List, string_bytes, vec_len, vec_capacity};
-    ghost use Rattle.outside.specs.Kept.{KeptFile};
+    ghost use Rattle.outside.specs.Inner.Kept.{KeptFile};
 
     ghost Value = { List ℕ × KeptFile };
 

@@ -4,8 +4,8 @@ ghost use Rattle.std.specs.Prelude.{IfOk, OnOk, OnErr, MatchResult, option_map};
 ghost use Rattle.std.specs.Str.{bytes_eq};
 ghost use Rattle.outside.specs.Faults.{Rose, NeverFall};
 ghost use Rattle.outside.specs.Told.{Finds, Appends, OthersStay};
-ghost use Rattle.outside.specs.Kept.{new_shelf, told_of, read_faults_of, write_faults_of, call_passes, append_passes};
-ghost use Rattle.outside.specs.Kept.{after_put, after_read, after_fresh, after_append};
+ghost use Rattle.outside.specs.Inner.Kept.{new_shelf, told_of, read_faults_of, write_faults_of, call_passes, append_passes};
+ghost use Rattle.outside.specs.Inner.Kept.{after_put, after_read, after_fresh, after_append};
 
 use crate::copies::copy_from;
 use crate::counts::Counts;
@@ -30,7 +30,7 @@ pub struct MemShelf {
 }
 
 impl Model for MemShelf {
-    ghost use Rattle.outside.specs.Kept.{Kept};
+    ghost use Rattle.outside.specs.Inner.Kept.{Kept};
 
     ghost Value = { Kept };
 

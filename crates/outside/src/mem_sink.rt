@@ -2,7 +2,7 @@
 ghost use Rattle.std.specs.Prelude.{◌≡◌, ◌<◌, ◌≤◌, [], length, take, is_ok, Some, IfOk, OnErr, MatchResult};
 ghost use Rattle.outside.specs.Faults.{Rose};
 ghost use Rattle.outside.specs.Told.{Appends};
-ghost use Rattle.outside.specs.Printed.{new_sink, write_passes, after_write};
+ghost use Rattle.outside.specs.Inner.Printed.{new_sink, write_passes, after_write};
 
 use crate::failing::FailingCalls;
 use crate::faults::{Failed, Memory};
@@ -23,7 +23,7 @@ pub struct MemSink {
 
 impl Model for MemSink {
     ghost use Rattle.std.specs.Prelude.{◌≤◌, vec_len, vec_capacity};
-    ghost use Rattle.outside.specs.Printed.{Printed};
+    ghost use Rattle.outside.specs.Inner.Printed.{Printed};
 
     ghost Value = { Printed };
 

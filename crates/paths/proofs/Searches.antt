@@ -9,7 +9,8 @@ use Rattle.arch_model.specs.Set.{Set, has, put, empty, union, members_below}
 use Rattle.arch_model.specs.Parts.{LibraryParts, ArchitectureParts}
 use Rattle.arch_model.specs.Library.{IsLibrary}
 use Rattle.arch_model.specs.Architecture.{IsArchitecture}
-use Rattle.arch_model.specs.Path.{is_source, is_up, live_edges, joins, LeadsTo, IsPath, IsWalk}
+use Rattle.arch_model.specs.Path.{is_source, is_up, live_edges, joins, LeadsTo, IsPath}
+use Rattle.arch_model.specs.Inner.Walks.{IsWalk}
 use Rattle.arch_model.proofs.Members.{and_right, and_both, or_left, or_right, or_cases, some_of, any_of, is_in-members, has-from_members}
 use Rattle.arch_model.proofs.SetLaws.{has-put, has-empty, has-union}
 use Rattle.arch_model.proofs.Ranges.{edge_tails, edge_heads}

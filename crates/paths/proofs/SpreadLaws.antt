@@ -16,7 +16,8 @@ use Rattle.arch_model.specs.declared.sets.CompId.{CompId}
 use Rattle.arch_model.specs.declared.sets.EdgeId.{EdgeId}
 use Rattle.std.proofs.lemmas.List.{map-append}
 use Rattle.arch_model.specs.Member.{is_in}
-use Rattle.arch_model.specs.Path.{is_source_role, reached_within, IsWalk}
+use Rattle.arch_model.specs.Path.{is_source_role, reached_within}
+use Rattle.arch_model.specs.Inner.Walks.{IsWalk}
 use Rattle.arch_model.proofs.Members.{and_left, and_right, and_both, bool_cases, or_left, or_right, or_cases, same_test, some_of, any_of, is_in-range, is_in-filter, is_in-members, has-from_members}
 use Rattle.arch_model.proofs.SetLaws.{has-put, has-empty, has-union, has-intersection, has-minus}
 use Rattle.arch_model.proofs.Ranges.{blank_edge, blank_component}

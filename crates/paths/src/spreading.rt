@@ -2,7 +2,7 @@
 ghost use Rattle.std.specs.Prelude.{◌≡◌, ℕ, ◌<◌, ◌&&◌, ◌||◌, ◌↔◌, IsTrue, List};
 ghost use Rattle.std.specs.List.{list_any};
 ghost use Rattle.arch_model.specs.Set as set;
-ghost use Rattle.arch_model.specs.Path.{IsWalk};
+ghost use Rattle.arch_model.specs.Inner.Walks.{IsWalk};
 ghost use Rattle.paths.specs.Inner.Spread.{is_next};
 
 use arch_model::CompSet;

@@ -9,7 +9,10 @@ use Rattle.arch_model.specs.Set.{Set, has}
 use Rattle.arch_model.specs.Parts.{LibraryParts, ArchitectureParts}
 use Rattle.arch_model.specs.Library.{IsLibrary}
 use Rattle.arch_model.specs.Architecture.{present, present_edges}
-use Rattle.arch_model.specs.Pattern.{at_component, is_instance, edges_into, edges_out_of, in_degree, out_degree}
+use Rattle.arch_model.specs.Pattern.{at_component, is_instance}
+use Rattle.patterns.specs.declared.sides.Side.{Side}
+use Rattle.patterns.specs.declared.sides.Side.TheVariants.{In, Out}
+use Rattle.patterns.specs.Inner.Sides.{near, far, degree_of, rated, flow_of}
 use Rattle.arch_model.proofs.Ranges.{blank_component}
 use Rattle.arch_model.proofs.RowReads.{supplies_small, demands_small, at_small}
 
@@ -36,35 +39,25 @@ counted_both false c = refl
 abbrev pub of_type : ℕ → Component → ℕ
 of_type t c = counted (nat_eq c.of t)
 
-abbrev pub leading_in : LibraryParts → ℕ → ℕ → Edge → ℕ
-leading_in lib t i e = counted (nat_eq e.head.0 i && is_instance lib t e.tail.0)
-
-abbrev pub leading_out : LibraryParts → ℕ → ℕ → Edge → ℕ
-leading_out lib t i e = counted (nat_eq e.tail.0 i && is_instance lib t e.head.0)
+abbrev pub leading : LibraryParts → Side → ℕ → ℕ → Edge → ℕ
+leading lib side t i e = counted (nat_eq (near side e).0 i && is_instance lib t (far side e).0)
 
 -- degrees as sums over all present edges
-pub in_degree_is : (lib : LibraryParts) (arch : ArchitectureParts) (t i : ℕ) → sum_by (leading_in lib t i) (present_edges lib arch) ≡ in_degree lib arch t i
-in_degree_is lib arch t i =
-    sum_by_same (leading_in lib t i) (λ e. cond (nat_eq e.head.0 i) (counted (is_instance lib t e.tail.0)) 0) (λ e. counted_both (nat_eq e.head.0 i) (is_instance lib t e.tail.0)) (present_edges lib arch)
+pub degree_is : (lib : LibraryParts) (arch : ArchitectureParts) (side : Side) (t i : ℕ) → sum_by (leading lib side t i) (present_edges lib arch) ≡ degree_of side lib arch t i
+degree_is lib arch In t i =
+    sum_by_same (leading lib In t i) (λ e. cond (nat_eq e.head.0 i) (counted (is_instance lib t e.tail.0)) 0) (λ e. counted_both (nat_eq e.head.0 i) (is_instance lib t e.tail.0)) (present_edges lib arch)
     ∙ sym (sum_by-filter (λ (e : Edge). counted (is_instance lib t e.tail.0)) (λ e. nat_eq e.head.0 i) (present_edges lib arch))
-
-pub out_degree_is : (lib : LibraryParts) (arch : ArchitectureParts) (t i : ℕ) → sum_by (leading_out lib t i) (present_edges lib arch) ≡ out_degree lib arch t i
-out_degree_is lib arch t i =
-    sum_by_same (leading_out lib t i) (λ e. cond (nat_eq e.tail.0 i) (counted (is_instance lib t e.head.0)) 0) (λ e. counted_both (nat_eq e.tail.0 i) (is_instance lib t e.head.0)) (present_edges lib arch)
+degree_is lib arch Out t i =
+    sum_by_same (leading lib Out t i) (λ e. cond (nat_eq e.tail.0 i) (counted (is_instance lib t e.head.0)) 0) (λ e. counted_both (nat_eq e.tail.0 i) (is_instance lib t e.head.0)) (present_edges lib arch)
     ∙ sym (sum_by-filter (λ (e : Edge). counted (is_instance lib t e.head.0)) (λ e. nat_eq e.tail.0 i) (present_edges lib arch))
 
 -- supplies and demands at a component as sums over all present edges
-abbrev pub brought_by : LibraryParts → ℕ → Edge → ℕ
-brought_by lib i e = cond (nat_eq e.head.0 i) (at_component lib (λ c. c.supply) e.tail.0) 0
+abbrev pub flow : LibraryParts → Side → ℕ → Edge → ℕ
+flow lib side i e = cond (nat_eq (near side e).0 i) (rated side lib (far side e).0) 0
 
-abbrev pub asked_by : LibraryParts → ℕ → Edge → ℕ
-asked_by lib i e = cond (nat_eq e.tail.0 i) (at_component lib (λ c. c.demand) e.head.0) 0
-
-pub supply_into_is : (lib : LibraryParts) (arch : ArchitectureParts) (i : ℕ) → sum_by (brought_by lib i) (present_edges lib arch) ≡ sum_by (λ e. at_component lib (λ c. c.supply) e.tail.0) (edges_into lib arch i)
-supply_into_is lib arch i = sym (sum_by-filter (λ (e : Edge). at_component lib (λ c. c.supply) e.tail.0) (λ e. nat_eq e.head.0 i) (present_edges lib arch))
-
-pub demand_out_of_is : (lib : LibraryParts) (arch : ArchitectureParts) (i : ℕ) → sum_by (asked_by lib i) (present_edges lib arch) ≡ sum_by (λ e. at_component lib (λ c. c.demand) e.head.0) (edges_out_of lib arch i)
-demand_out_of_is lib arch i = sym (sum_by-filter (λ (e : Edge). at_component lib (λ c. c.demand) e.head.0) (λ e. nat_eq e.tail.0 i) (present_edges lib arch))
+pub flow_is : (lib : LibraryParts) (arch : ArchitectureParts) (side : Side) (i : ℕ) → sum_by (flow lib side i) (present_edges lib arch) ≡ flow_of side lib arch i
+flow_is lib arch In i = sym (sum_by-filter (λ (e : Edge). at_component lib (λ c. c.supply) e.tail.0) (λ e. nat_eq e.head.0 i) (present_edges lib arch))
+flow_is lib arch Out i = sym (sum_by-filter (λ (e : Edge). at_component lib (λ c. c.demand) e.head.0) (λ e. nat_eq e.tail.0 i) (present_edges lib arch))
 
 -- a loop's sum over the whole list
 pub whole_sum : {X : Type 0} (f : X → ℕ) (s s' : Set) (xs ys : List X) (i n : ℕ) → length xs ≤ i → xs ≡ ys → s ≡ s' → n ≡ sum_by f (present (has s) (take i xs)) → n ≡ sum_by f (present (has s') ys)
@@ -82,20 +75,14 @@ where_small : (b : Bool) (n : ℕ) → n ≤ 10 ^ 12 → cond b n 0 ≤ 10 ^ 12
 where_small true n h = h
 where_small false n h = omega arith
 
-pub brought_small : (lib : LibraryParts) → IsLibrary lib → (i : ℕ) (e : Edge) → brought_by lib i e ≤ 10 ^ 12
-brought_small lib h i e = where_small (nat_eq e.head.0 i) _ (at_small lib (λ c. c.supply) e.tail.0 (supplies_small lib h))
+rated_small : (lib : LibraryParts) → IsLibrary lib → (side : Side) (c : ℕ) → rated side lib c ≤ 10 ^ 12
+rated_small lib h In c = at_small lib (λ c. c.supply) c (supplies_small lib h)
+rated_small lib h Out c = at_small lib (λ c. c.demand) c (demands_small lib h)
 
-pub asked_small : (lib : LibraryParts) → IsLibrary lib → (i : ℕ) (e : Edge) → asked_by lib i e ≤ 10 ^ 12
-asked_small lib h i e = where_small (nat_eq e.tail.0 i) _ (at_small lib (λ c. c.demand) e.head.0 (demands_small lib h))
+pub flow_small : (lib : LibraryParts) → IsLibrary lib → (side : Side) (i : ℕ) (e : Edge) → flow lib side i e ≤ 10 ^ 12
+flow_small lib h side i e = where_small (nat_eq (near side e).0 i) _ (rated_small lib h side (far side e).0)
 
--- what present edges bring to a component, and what they ask of it
-abbrev pub supply_at : LibraryParts → ArchitectureParts → ℕ → ℕ
-supply_at lib arch i = sum_by (λ e. at_component lib (λ c. c.supply) e.tail.0) (edges_into lib arch i)
-
-abbrev pub demand_at : LibraryParts → ArchitectureParts → ℕ → ℕ
-demand_at lib arch i = sum_by (λ e. at_component lib (λ c. c.demand) e.head.0) (edges_out_of lib arch i)
-
--- the same of the slice that a library lends
+-- supplies and demands in the slice that a library lends
 pub supplies_at : (lib : LibraryParts) (xs : List Component) → IsLibrary lib → xs ≡ lib.components → (k : ℕ) → k < length xs → (get_or xs k blank_component).supply ≤ 10 ^ 12
 supplies_at lib xs h same k short = rw same (supplies_small lib h k blank_component (omega (arith, ap length same)))
 

@@ -4,91 +4,54 @@ ghost use Rattle.std.specs.List.{All};
 ghost use Rattle.arch_model.specs.Architecture.{present_edges};
 ghost use Rattle.arch_model.specs.Pattern as spec;
 ghost use Rattle.arch_model.specs.Set as set;
+ghost use Rattle.patterns.specs.Inner.Sides as sides;
 
 use crate::counts::{is_between, is_present};
+use crate::sides::Side;
 use arch_model::{Architecture, CompId, Edge, EdgeId, EdgeSet, Library, is_instance};
 
-// Whether an edge leads from an instance of type t to component i.
-fn leads_in(lib: &Library, edge: &Edge, t: u32, i: CompId) -> bool
-    ensures { result ≡ (nat_eq edge.now.head.0 i.0 && spec.is_instance lib.now t edge.now.tail.0) }
+// Whether an edge joins component i on its side to an instance of type t.
+fn joins(lib: &Library, edge: &Edge, side: Side, t: u32, i: CompId) -> bool
+    ensures { result
+        ≡ (nat_eq (sides.near side edge.now).0 i.0 && spec.is_instance lib.now t (sides.far side edge.now).0) }
 {
-    edge.head == i && is_instance(lib, t, edge.tail)
+    side.near(edge) == i && is_instance(lib, t, side.far(edge))
 }
 
-// Whether an edge leads from component i to an instance of type t.
-fn leads_out(lib: &Library, edge: &Edge, t: u32, i: CompId) -> bool
-    ensures { result ≡ (nat_eq edge.now.tail.0 i.0 && spec.is_instance lib.now t edge.now.head.0) }
-{
-    edge.tail == i && is_instance(lib, t, edge.head)
-}
-
-// How many present edges lead from instances of type t to component i.
-fn in_degree(lib: &Library, arch: &Architecture, t: u32, i: CompId) -> usize
-    ensures { result ≡ spec.in_degree lib.now arch.now t i.0 }
+// How many present edges join component i on its side to instances of type t.
+fn degree(lib: &Library, arch: &Architecture, side: Side, t: u32, i: CompId) -> usize
+    ensures { result ≡ sides.degree_of side lib.now arch.now t i.0 }
 {
     let edges = lib.edges();
     let chosen = arch.edges();
     let mut total = 0;
     for (e, edge) in edges.iter().enumerate() {
         if chosen.has(EdgeId(e as u32)) {
-            total += usize::from(leads_in(lib, edge, t, i));
+            total += usize::from(joins(lib, edge, side, t, i));
         }
     }
     total
 }
 
-// How many present edges lead from component i to instances of type t.
-fn out_degree(lib: &Library, arch: &Architecture, t: u32, i: CompId) -> usize
-    ensures { result ≡ spec.out_degree lib.now arch.now t i.0 }
-{
-    let edges = lib.edges();
-    let chosen = arch.edges();
-    let mut total = 0;
-    for (e, edge) in edges.iter().enumerate() {
-        if chosen.has(EdgeId(e as u32)) {
-            total += usize::from(leads_out(lib, edge, t, i));
-        }
-    }
-    total
-}
-
-// Whether each present instance of a type has a number in range of present edges from instances
-// of another.
-pub(crate) fn in_degrees_fit(
+// Whether each present instance of a type has a number in range of present edges that join it on
+// that side to instances of another.
+pub(crate) fn degrees_fit(
     lib: &Library,
     arch: &Architecture,
+    side: Side,
     of: u32,
-    from: u32,
+    other: u32,
     min: u32,
     max: Option<u32>,
 ) -> bool
     ensures { IsTrue result ↔ spec.EachPresent lib.now arch.now of
-        (λ i. spec.IsBetween min max (spec.in_degree lib.now arch.now from i)) }
+        (λ i. spec.IsBetween min max (sides.degree_of side lib.now arch.now other i)) }
 {
     for i in 0..lib.components().len() as u32 {
         let i = CompId(i);
-        if is_present(lib, arch, of, i) && !is_between(min, max, in_degree(lib, arch, from, i)) {
-            return false;
-        }
-    }
-    true
-}
-
-// The same of present edges to instances of another.
-pub(crate) fn out_degrees_fit(
-    lib: &Library,
-    arch: &Architecture,
-    of: u32,
-    to: u32,
-    min: u32,
-    max: Option<u32>,
-) -> bool
-    ensures { IsTrue result ↔ spec.EachPresent lib.now arch.now of
-        (λ i. spec.IsBetween min max (spec.out_degree lib.now arch.now to i)) }
-{
-    for i in 0..lib.components().len() as u32 {
-        let i = CompId(i);
-        if is_present(lib, arch, of, i) && !is_between(min, max, out_degree(lib, arch, to, i)) {
+        if is_present(lib, arch, of, i)
+            && !is_between(min, max, degree(lib, arch, side, other, i))
+        {
             return false;
         }
     }
@@ -109,8 +72,8 @@ pub(crate) fn inputs_have_outputs(
     for i in 0..lib.components().len() as u32 {
         let i = CompId(i);
         if is_instance(lib, of, i)
-            && in_degree(lib, arch, from, i) > 0
-            && out_degree(lib, arch, to, i) == 0
+            && degree(lib, arch, Side::In, from, i) > 0
+            && degree(lib, arch, Side::Out, to, i) == 0
         {
             return false;
         }
@@ -126,8 +89,8 @@ pub(crate) fn inputs_exclude(lib: &Library, arch: &Architecture, of: u32, a: u32
     for i in 0..lib.components().len() as u32 {
         let i = CompId(i);
         if is_instance(lib, of, i)
-            && in_degree(lib, arch, a, i) > 0
-            && in_degree(lib, arch, b, i) > 0
+            && degree(lib, arch, Side::In, a, i) > 0
+            && degree(lib, arch, Side::In, b, i) > 0
         {
             return false;
         }

@@ -12,6 +12,7 @@
 mod counts;
 mod degrees;
 mod pattern;
+mod sides;
 mod supplies;
 
 pub use pattern::{first_broken, meets_pattern};

@@ -6,9 +6,8 @@ ghost use Rattle.arch_model.specs.Architecture.{IsArchitecture};
 ghost use Rattle.arch_model.specs.Pattern.{MeetsPattern};
 
 use crate::counts::{count, implies, is_between};
-use crate::degrees::{
-    in_degrees_fit, inputs_exclude, inputs_have_outputs, none_goes, out_degrees_fit,
-};
+use crate::degrees::{degrees_fit, inputs_exclude, inputs_have_outputs, none_goes};
+use crate::sides::Side;
 use crate::supplies::{each_is_supplied, is_supplied};
 use arch_model::{Architecture, Library, Pattern, cost};
 
@@ -20,9 +19,11 @@ pub fn meets_pattern(lib: &Library, arch: &Architecture, p: &Pattern) -> bool
     match *p {
         Pattern::Count { of, min, max } => is_between(min, max, count(lib, arch, of)),
         Pattern::InDegree { of, from, min, max } => {
-            in_degrees_fit(lib, arch, of, from, min, max)
+            degrees_fit(lib, arch, Side::In, of, from, min, max)
         }
-        Pattern::OutDegree { of, to, min, max } => out_degrees_fit(lib, arch, of, to, min, max),
+        Pattern::OutDegree { of, to, min, max } => {
+            degrees_fit(lib, arch, Side::Out, of, to, min, max)
+        }
         Pattern::InNeedsOut { of, from, to } => inputs_have_outputs(lib, arch, of, from, to),
         Pattern::Exclusive { of, a, b } => inputs_exclude(lib, arch, of, a, b),
         Pattern::Implies { a, b } => implies(lib, arch, a, b),

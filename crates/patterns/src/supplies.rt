@@ -2,61 +2,34 @@
 ghost use Rattle.std.specs.Prelude.{◌≡◌, ◌≤◌, ◌↔◌, IsTrue, nat_eq, sum_by, if◌then◌else◌};
 ghost use Rattle.arch_model.specs.Architecture.{present_components};
 ghost use Rattle.arch_model.specs.Pattern as spec;
+ghost use Rattle.patterns.specs.Inner.Sides as sides;
 
 use crate::counts::is_present;
-use arch_model::{Architecture, CompId, Edge, EdgeId, Library, demand, supply};
+use crate::sides::Side;
+use arch_model::{Architecture, CompId, Edge, EdgeId, Library};
 
-// What an edge brings to component i.
-fn brought(lib: &Library, edge: &Edge, i: CompId) -> u64
-    ensures { result
-        ≡ (if nat_eq edge.now.head.0 i.0 then spec.at_component lib.now (λ c. c.supply) edge.now.tail.0 else 0) }
+// What an edge brings to component i, or asks of it, on its side.
+fn flow(lib: &Library, edge: &Edge, side: Side, i: CompId) -> u64
+    ensures { result ≡ (if nat_eq (sides.near side edge.now).0 i.0
+        then sides.rated side lib.now (sides.far side edge.now).0 else 0) }
 {
-    if edge.head == i {
-        supply(lib, edge.tail)
+    if side.near(edge) == i {
+        side.rating(lib, side.far(edge))
     } else {
         0
     }
 }
 
-// What an edge asks of component i.
-fn asked(lib: &Library, edge: &Edge, i: CompId) -> u64
-    ensures { result
-        ≡ (if nat_eq edge.now.tail.0 i.0 then spec.at_component lib.now (λ c. c.demand) edge.now.head.0 else 0) }
-{
-    if edge.tail == i {
-        demand(lib, edge.head)
-    } else {
-        0
-    }
-}
-
-// What the present edges bring to component i.
-fn supply_into(lib: &Library, arch: &Architecture, i: CompId) -> u64
-    ensures { result ≡ sum_by
-        (λ e. spec.at_component lib.now (λ c. c.supply) e.tail.0) (spec.edges_into lib.now arch.now i.0) }
+// What the present edges on a side of component i bring to it, or ask of it.
+fn flow_at(lib: &Library, arch: &Architecture, side: Side, i: CompId) -> u64
+    ensures { result ≡ sides.flow_of side lib.now arch.now i.0 }
 {
     let edges = lib.edges();
     let chosen = arch.edges();
     let mut total = 0;
     for (e, edge) in edges.iter().enumerate() {
         if chosen.has(EdgeId(e as u32)) {
-            total += brought(lib, edge, i);
-        }
-    }
-    total
-}
-
-// What the present edges ask of component i.
-fn demand_out_of(lib: &Library, arch: &Architecture, i: CompId) -> u64
-    ensures { result ≡ sum_by
-        (λ e. spec.at_component lib.now (λ c. c.demand) e.head.0) (spec.edges_out_of lib.now arch.now i.0) }
-{
-    let edges = lib.edges();
-    let chosen = arch.edges();
-    let mut total = 0;
-    for (e, edge) in edges.iter().enumerate() {
-        if chosen.has(EdgeId(e as u32)) {
-            total += asked(lib, edge, i);
+            total += flow(lib, edge, side, i);
         }
     }
     total
@@ -71,7 +44,9 @@ pub(crate) fn each_is_supplied(lib: &Library, arch: &Architecture, of: u32) -> b
 {
     for i in 0..lib.components().len() as u32 {
         let i = CompId(i);
-        if is_present(lib, arch, of, i) && demand_out_of(lib, arch, i) > supply_into(lib, arch, i) {
+        if is_present(lib, arch, of, i)
+            && flow_at(lib, arch, Side::Out, i) > flow_at(lib, arch, Side::In, i)
+        {
             return false;
         }
     }

@@ -47,7 +47,7 @@ pub struct Turn<V: Held> {
 /// Another seat was in a turn.
 #[derive(Drop)]
 pub struct Busy<V: Held> {
-    /// The word that showed it: an odd one.
+    /// The word that showed it: an odd one, twice the value's count and one more.
     pub word: u64,
     /// The seat, which has found that word.
     pub seat: GateSeat<V>,

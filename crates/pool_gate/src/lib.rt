@@ -10,14 +10,16 @@
 //! seat is in a turn; the value stands in the table's one slot. A turn begins with a fetch_or of
 //! the word that finds it even, and ends with the swap that makes it even again. `try_turn` is one
 //! such step and never waits; `turn` tries until it finds the word even, and sleeps between. A rule
-//! about all seats and the word holds between any two steps (`specs/Rule.antt`), and each kind of
-//! step is proved to keep it.
+//! about all seats, the word and the slot holds between any two steps (`RuleHolds` in
+//! `specs/Rule.antt`). `laws` says that a gate opens with it, that each kind of step keeps it, and
+//! that it gives what the calls promise.
 //!
 //! Not promised: that anybody gets a turn, fairness, or that a turn is ever given back.
 #![tactic(auto)]
 
 mod gate;
 mod held;
+pub mod laws;
 mod plays;
 mod seat;
 #[cfg(test)]

@@ -1,6 +1,6 @@
 // The gate's rule, and what each step tells.
 ghost use Rattle.pool_gate.specs.Views.{opened_view, parted, fresh, joined, spent};
-ghost use Rattle.pool_gate.specs.Rule.{Between};
+ghost use Rattle.pool_gate.specs.Inner.Between.{Between};
 ghost use Rattle.pool_gate.specs.Plays.{Tried, GaveBack};
 
 use crate::held::Held;
@@ -11,7 +11,9 @@ use std::snapshot::Snapshot;
 /// The opening value, as clauses see it, and the number of seats.
 #[derive(Drop)]
 pub struct Opening<V> {
+    /// The value.
     pub value: Snapshot<V>,
+    /// How many seats there may be, 1 to 64.
     pub seats: u32,
 }
 

@@ -2,3 +2,4 @@ pub mod Steps
 pub mod Numbers
 pub mod NameLaws
 pub mod Distinct
+pub mod IndexLaws

@@ -11,8 +11,8 @@ use Rattle.arch_model.specs.declared.template.Edge.{Edge}
 use Rattle.arch_model.specs.declared.library.TypeRow.{TypeRow}
 use Rattle.arch_model.specs.declared.library.LinkRow.{LinkRow}
 use Rattle.arch_model.specs.Library.{IsTypeRow, IsLinkRow}
-use Rattle.arch_model.specs.Template.{instances_of_type, components_of, instances_of, edges_of_link}
-use Rattle.template.proofs.Steps.{unequal, edges_to, edge_of}
+use Rattle.arch_model.specs.Template.{instances_of_type, components_of, instances_of, edges_of_link, edge_of, edges_to}
+use Rattle.template.proofs.Steps.{unequal}
 
 abbrev made_from : ℕ → List TypeRow → List Component
 made_from n types = flat_map (λ (p : ℕ × TypeRow). instances_of_type p.0 p.1) (enumerate_from n types)

@@ -10,7 +10,7 @@ use Rattle.arch_model.specs.declared.template.Component.{Component}
 use Rattle.arch_model.specs.declared.template.Edge.{Edge}
 use Rattle.arch_model.specs.declared.library.TypeRow.{TypeRow}
 use Rattle.arch_model.specs.declared.library.LinkRow.{LinkRow}
-use Rattle.arch_model.specs.Template.{instances_of_type, components_of, instances_of, edges_of_link, edges_of}
+use Rattle.arch_model.specs.Template.{instances_of_type, components_of, instances_of, edge_of, edges_to}
 
 enumerate_push : {X : Type 0} (n k : ℕ) (xs : List X) (x : X) → n + length xs ≡ k → enumerate_from n (xs ++ x ∷ []) ≡ enumerate_from n xs ++ (k, x) ∷ []
 enumerate_push n k [] x e = let same : n ≡ k = omega arith in ap (λ j. (j, x) ∷ []) same
@@ -49,13 +49,6 @@ unequal a b ne = elim (eqb_tells a b) [ inl w ↦ absurd (ne w.1) | inr w ↦ w.
 
 pub instances_more_no : (components : List Component) (t i : ℕ) (d : Component) → i < length components → (get_or components i d).of ≢ t → instances_of (take (i + 1) components) t ≡ instances_of (take i components) t
 instances_more_no components t i d here ne = instances_more components t i d here ∙ ap (λ b. instances_of (take i components) t ++ cond b (i ∷ []) []) (unequal _ _ ne) ∙ append-nil _
-
--- the edge of a link from one component to another, and those from one component to some heads
-abbrev pub edge_of : LinkRow → ℕ → ℕ → Edge
-edge_of link tail head = record { tail = record { 0 = tail }; head = record { 0 = head }; cost = link.cost; fail = link.fail }
-
-abbrev pub edges_to : LinkRow → ℕ → List ℕ → List Edge
-edges_to link tail heads = map (edge_of link tail) (filter (λ head. not (nat_eq head tail)) heads)
 
 edges_to-append : (link : LinkRow) (tail : ℕ) (xs ys : List ℕ) → edges_to link tail (xs ++ ys) ≡ edges_to link tail xs ++ edges_to link tail ys
 edges_to-append link tail xs ys =
@@ -98,13 +91,6 @@ tails_more_yes components link i d here is =
 pub tails_more_no : (components : List Component) (link : LinkRow) (i : ℕ) (d : Component) → i < length components → (get_or components i d).of ≢ link.from
     → edges_from components link (instances_of (take (i + 1) components) link.from) ≡ edges_from components link (instances_of (take i components) link.from)
 tails_more_no components link i d here ne = ap (edges_from components link) (instances_more_no components link.from i d here ne)
-
--- one more link
-pub links_more : (components : List Component) (links : List LinkRow) (i : ℕ) (d : LinkRow) → i < length links → edges_of components (take (i + 1) links) ≡ edges_of components (take i links) ++ edges_of_link components (get_or links i d)
-links_more components links i d here =
-    ap (edges_of components) (take_more links i d here)
-    ∙ flat_map-append (edges_of_link components) (take i links) (get_or links i d ∷ [])
-    ∙ ap (λ l. edges_of components (take i links) ++ l) (append-nil _)
 
 -- one more instance of a type
 pub instances_of_type_more : (t i : ℕ) (row : TypeRow) (before after made : List Component)

@@ -1,9 +1,9 @@
 // The edges of a library's links, and the template.
 ghost use Rattle.std.specs.Prelude.{◌≡◌, ◌≤◌, ◌<◌, ◌^◌, ◌++◌, ◌↔◌, IsTrue, IfOk, OnOk};
-ghost use Rattle.std.specs.Prelude.{length, nat_eq, not, map, filter};
+ghost use Rattle.std.specs.Prelude.{length};
 ghost use Rattle.std.specs.List.{All, flat_map};
 ghost use Rattle.arch_model.specs.Library.{IsTypeRow, IsLinkRow};
-ghost use Rattle.arch_model.specs.Template.{template_of, components_of, instances_of, edges_of_link, edges_of};
+ghost use Rattle.arch_model.specs.Template.{template_of, components_of, instances_of, edges_to, edges_of_link, edges_of};
 
 use crate::instances::components;
 use arch_model::limits::{COMPONENTS, EDGES};
@@ -18,14 +18,8 @@ fn push_edges_from(
     tail: u32,
 ) -> Result<(), Memory>
     requires { length components.now ≤ 64 }
-    ensures { OnOk result (edges.new.items ≡ edges.old.items
-        ++ map (λ head. record {
-          tail = record { 0 = tail };
-          head = record { 0 = head };
-          cost = link.now.cost;
-          fail = link.now.fail;
-        })
-        (filter (λ head. not (nat_eq head tail)) (instances_of components.now link.now.to))) }
+    ensures { OnOk result (edges.new.items
+        ≡ edges.old.items ++ edges_to link.now tail (instances_of components.now link.now.to)) }
 {
     for (head, component) in components.iter().enumerate() {
         let head = head as u32;

@@ -1,38 +1,11 @@
 // Components and edges by what people write of them.
-ghost use Rattle.std.specs.Prelude.{◌≡◌, ◌≢◌, ◌<◌, ◌++◌, ◌↔◌, ℕ, IsTrue, IfSome, IfNone, length, slice_get, codes};
+ghost use Rattle.std.specs.Prelude.{◌≡◌, ◌≢◌, ◌<◌, ℕ, IfSome, IfNone, length, slice_get};
 ghost use Rattle.std.specs.List.{All};
 ghost use Rattle.std.specs.Option.{IsSomeAnd};
-ghost use Rattle.std.specs.Fmt.{decimal};
 ghost use Rattle.template.specs.Names.{component_name};
 
+use crate::names::index_in;
 use arch_model::{CompId, EdgeId, Library};
-
-// Whether a text is a number below 100 in decimal, without a leading zero.
-fn is_decimal(text: &[u8], n: u32) -> bool
-    requires { n < 100 }
-    ensures { IsTrue result ↔ (text.now ≡ decimal n) }
-{
-    let digits = [b'0' + (n / 10) as u8, b'0' + (n % 10) as u8];
-    if n < 10 {
-        text == &digits[1..]
-    } else {
-        text == &digits[..]
-    }
-}
-
-// Whether a text is a type's name, a dot and an index.
-fn is_name(text: &[u8], type_name: &[u8], index: u32) -> bool
-    requires { index < 100 }
-    ensures { IsTrue result ↔ (text.now ≡ type_name.now ++ codes "." ++ decimal index) }
-{
-    let Some(rest) = text.strip_prefix(type_name) else {
-        return false;
-    };
-    if rest.is_empty() || rest[0] != b'.' {
-        return false;
-    }
-    is_decimal(&rest[1..], index)
-}
 
 /// The component of that name; none where no component has it.
 pub fn find_component(lib: &Library, name: &str) -> Option<CompId>
@@ -43,7 +16,7 @@ pub fn find_component(lib: &Library, name: &str) -> Option<CompId>
     let types = lib.types();
     for (c, component) in components.iter().enumerate() {
         let row = &types[component.of as usize];
-        if is_name(name.as_bytes(), row.name.text().as_bytes(), component.index) {
+        if index_in(name, row.name.text()) == Some(component.index as u64) {
             return Some(CompId(c as u32));
         }
     }

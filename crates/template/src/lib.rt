@@ -19,7 +19,7 @@ mod names;
 pub use edges::{expand, has_few_edges};
 pub use finding::{find_component, find_edge};
 pub use instances::has_few_components;
-pub use names::{name_of, push_name};
+pub use names::{index_in, instance_name, name_of, push_name};
 
 #[cfg(test)]
 mod tests;

@@ -5,7 +5,8 @@ ghost use Rattle.arch_model.specs.Name.{IsTypeName};
 ghost use Rattle.arch_model.specs.Library.{IsTypeRow, IsLinkRow};
 
 use crate::{
-    expand, find_component, find_edge, has_few_components, has_few_edges, name_of, push_name,
+    expand, find_component, find_edge, has_few_components, has_few_edges, index_in, instance_name,
+    name_of, push_name,
 };
 use arch_model::limits::FAILING;
 use arch_model::{CompId, EdgeId, Library, LinkRow, Name, Role, Template, TypeRow};
@@ -141,6 +142,8 @@ fn a_name_is_its_types_name_a_dot_and_an_index_from_1(rt: HostRuntime) -> Result
     let lib = library(&rt, types, links)?;
     assert!(rt; lib.components().len() > 13);
     assert_eq!(rt; name_of(rt.alloc(), &lib, CompId(0))?.as_str(), "gen.1");
+    assert_eq!(rt; instance_name(rt.alloc(), "gen", 1)?.as_str(), "gen.1");
+    assert_eq!(rt; index_in("bus.65", "bus"), Some(65));
     let mut line = String::from_str(rt.alloc(), "component ")?;
     push_name(&mut line, &lib, CompId(13))?;
     assert_eq!(rt; line.as_str(), "component bus.12");

@@ -30,15 +30,11 @@ fn after_instance<'a>(
     ensures some { IfSome result (λ rest. list.now ≡ instance_of_type t row.now index ∷ rest.now) }
     ensures none { (rest : List Component) → list.now ≡ instance_of_type t row.now index ∷ rest → IsSome result }
 {
-    match list.split_first() {
-        Some((first, rest)) => {
-            if is_expected(first, t, index, row) {
-                Some(rest)
-            } else {
-                None
-            }
-        }
-        None => None,
+    let (first, rest) = list.split_first()?;
+    if is_expected(first, t, index, row) {
+        Some(rest)
+    } else {
+        None
     }
 }
 
@@ -91,15 +87,11 @@ fn after_edge<'a>(list: &'a [Edge], link: &LinkRow, tail: usize, head: usize) ->
     ensures some { IfSome result (λ rest. list.now ≡ edge_of link.now tail head ∷ rest.now) }
     ensures none { (rest : List Edge) → list.now ≡ edge_of link.now tail head ∷ rest → IsSome result }
 {
-    match list.split_first() {
-        Some((first, rest)) => {
-            if is_edge(first, link, tail, head) {
-                Some(rest)
-            } else {
-                None
-            }
-        }
-        None => None,
+    let (first, rest) = list.split_first()?;
+    if is_edge(first, link, tail, head) {
+        Some(rest)
+    } else {
+        None
     }
 }
 

@@ -1,6 +1,6 @@
 use Rattle.std.proofs.Common.{◌≡◌, map, take, string_bytes}
 use Rattle.std.specs.List.{flat_map}
-use Rattle.lib_read.specs.Components.{names_of_type}
+use Rattle.lib_read.specs.Inner.Building.{names_of_type}
 use Rattle.lib_read.proofs.components.component_names.Given as goal
 
 abbrev pub invariant-loop-row : goal.invariant-loop-row

@@ -2,7 +2,7 @@ use Rattle.std.proofs.Common.{codes, [], unwrap_or, map, ap, ◌∙◌}
 use Rattle.std.specs.List.{range_with_len}
 use Rattle.toml.specs.View.{view}
 use Rattle.lib_read.specs.Tree.{text_at}
-use Rattle.lib_read.specs.Components.{instance_name}
+use Rattle.template.specs.Names.{instance_name}
 use Rattle.lib_read.specs.Schema.{is_named}
 use Rattle.lib_read.proofs.ComponentLemmas.{named_index, named_by_none}
 use Rattle.lib_read.proofs.components.is_instance.Goals as goal

@@ -1,8 +1,6 @@
-use Rattle.std.proofs.Common.{codes, ◌≡◌, ◌+◌, ◌++◌, sym, map, string_bytes, ap, ◌∙◌, arith}
-use Rattle.std.specs.Fmt.{decimal}
-use Rattle.std.proofs.lemmas.List.{append_assoc}
+use Rattle.std.proofs.Common.{◌≡◌, ◌+◌, ◌++◌, map, string_bytes, ap, ◌∙◌, arith}
 use Rattle.std.specs.List.{range_with_len}
-use Rattle.lib_read.specs.Components.{instance_name}
+use Rattle.template.specs.Names.{instance_name}
 use Rattle.lib_read.proofs.ComponentLemmas.{one_more}
 use Rattle.lib_read.proofs.components.push_names.Goals as goal
 
@@ -13,6 +11,6 @@ returns c =
 
 pub loop-i-preserved : goal.loop-i-preserved
 loop-i-preserved c =
-    let named = c.in_ok-format.ensures.ok ∙ sym (append_assoc c.text-name.result.now (codes ".") (decimal (c.loop-i.i + 1))) ∙ ap (λ n. instance_name n (c.loop-i.i + 1)) c.text-name.ensures.text in
+    let named = c.in_ok-instance_name.ensures ∙ ap (λ n. instance_name n (c.loop-i.i + 1)) c.text.ensures.text in
     ap (map string_bytes) c.in_ok-push.ensures.items
-    ∙ one_more c.loop-i.names.items (map string_bytes c.args.names.now.items) c.args.row.now.name c.loop-i.i c.in_ok-format.field-0 c.loop-i.invariant named
+    ∙ one_more c.loop-i.names.items (map string_bytes c.args.names.now.items) c.args.row.now.name c.loop-i.i c.in_ok-instance_name.field-0 c.loop-i.invariant named

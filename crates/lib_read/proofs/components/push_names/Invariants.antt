@@ -1,6 +1,6 @@
 use Rattle.std.proofs.Common.{◌≡◌, ◌++◌, map, string_bytes}
 use Rattle.std.specs.List.{range_with_len}
-use Rattle.lib_read.specs.Components.{instance_name}
+use Rattle.template.specs.Names.{instance_name}
 use Rattle.lib_read.proofs.components.push_names.Given as goal
 
 abbrev pub invariant-loop-i : goal.invariant-loop-i

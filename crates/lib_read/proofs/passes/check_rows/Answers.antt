@@ -3,7 +3,7 @@ use Rattle.std.proofs.lemmas.Result.{err_from_is_err_and}
 use Rattle.toml.specs.View.{view}
 use Rattle.lib_read.specs.declared.fault.LibClass.TheVariants.{UnknownKey, MissingKey, WrongKind, BadName}
 use Rattle.lib_read.specs.Fault.{least}
-use Rattle.lib_read.specs.Keys.{StopsAt}
+use Rattle.lib_read.specs.Inner.Keys.{StopsAt}
 use Rattle.lib_read.specs.Faults.{class_faults}
 use Rattle.lib_read.proofs.LeastLemmas.{stops_here, stops_past}
 use Rattle.lib_read.proofs.PartLemmas.{key_before, missing_before, kind_before}

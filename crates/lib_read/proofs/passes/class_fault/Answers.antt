@@ -1,5 +1,5 @@
 use Rattle.toml.specs.View.{view}
-use Rattle.lib_read.specs.Keys.{fault_view}
+use Rattle.lib_read.specs.Inner.Keys.{fault_view}
 use Rattle.lib_read.proofs.PartLemmas.{in_library, in_types, in_links}
 use Rattle.lib_read.proofs.passes.class_fault.Goals as goal
 

@@ -1,7 +1,7 @@
 use Rattle.std.proofs.Common.{map}
 use Rattle.toml.specs.View.{view}
 use Rattle.lib_read.specs.Schema.{is_faulty}
-use Rattle.lib_read.specs.Keys.{key_view}
+use Rattle.lib_read.specs.Inner.Keys.{key_view}
 use Rattle.lib_read.proofs.KeyOrder.{ascend_names}
 use Rattle.lib_read.proofs.passes.faulty_key.Goals as goal
 

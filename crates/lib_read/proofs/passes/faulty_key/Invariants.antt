@@ -1,9 +1,9 @@
 use Rattle.std.proofs.Common.{◌≡◌, map, drop}
 use Rattle.std.specs.List.{filter}
 use Rattle.toml.specs.View.{view}
-use Rattle.lib_read.specs.Fault.{first}
+use Rattle.lib_read.specs.Inner.Passes.{first}
 use Rattle.lib_read.specs.Schema as spec
-use Rattle.lib_read.specs.Keys.{key_view}
+use Rattle.lib_read.specs.Inner.Keys.{key_view}
 use Rattle.lib_read.proofs.passes.faulty_key.Given as goal
 
 abbrev pub invariant-loop-key : goal.invariant-loop-key

@@ -3,7 +3,7 @@ use Rattle.std.proofs.lemmas.Result.{err_from_is_err_and}
 use Rattle.toml.specs.View.{view}
 use Rattle.lib_read.specs.declared.fault.LibClass.TheVariants.{UnknownName, Range}
 use Rattle.lib_read.specs.Fault.{least}
-use Rattle.lib_read.specs.Keys.{StopsAt}
+use Rattle.lib_read.specs.Inner.Keys.{StopsAt}
 use Rattle.lib_read.specs.Faults.{plain_faults, repeated_names, repeated_links, class_faults}
 use Rattle.lib_read.specs.Rows.{type_names}
 use Rattle.lib_read.proofs.LeastLemmas.{stops_here, stops_past}

@@ -1,7 +1,7 @@
 use Rattle.std.proofs.Common.{codes, map, subst, sym, ap, ◌∙◌}
 use Rattle.toml.specs.View.{view, table_view}
-use Rattle.lib_read.specs.Fault.{first}
-use Rattle.lib_read.specs.Keys.{key_view}
+use Rattle.lib_read.specs.Inner.Passes.{first}
+use Rattle.lib_read.specs.Inner.Keys.{key_view}
 use Rattle.lib_read.specs.Faults.{faulty_keys}
 use Rattle.lib_read.proofs.KeyOrder.{Ascend, ascend_none, ascend_one, of_table, wrong_kind, no_keys}
 use Rattle.lib_read.proofs.passes.row_key.Goals as goal

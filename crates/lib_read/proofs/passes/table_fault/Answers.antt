@@ -2,7 +2,7 @@ use Rattle.std.proofs.Common.{◌+◌, ap, ◌∙◌}
 use Rattle.toml.specs.View.{view}
 use Rattle.lib_read.specs.Fault.{least}
 use Rattle.lib_read.specs.Schema.{table_keys}
-use Rattle.lib_read.specs.Keys.{fault_view}
+use Rattle.lib_read.specs.Inner.Keys.{fault_view}
 use Rattle.lib_read.specs.Faults.{faulty_keys, row_faults, table_faults}
 use Rattle.lib_read.proofs.LeastLemmas.{row_faults_in, turn_here}
 use Rattle.lib_read.proofs.passes.table_fault.Goals as goal

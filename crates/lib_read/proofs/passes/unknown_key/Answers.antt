@@ -1,7 +1,7 @@
 use Rattle.std.proofs.Common.{map, not}
 use Rattle.toml.specs.View.{table_view}
 use Rattle.lib_read.specs.Tree.{keys_of}
-use Rattle.lib_read.specs.Keys.{key_view}
+use Rattle.lib_read.specs.Inner.Keys.{key_view}
 use Rattle.lib_read.specs.Faults.{is_known}
 use Rattle.lib_read.proofs.KeyOrder.{ascend_some, ascend_entries}
 use Rattle.lib_read.proofs.passes.unknown_key.Goals as goal

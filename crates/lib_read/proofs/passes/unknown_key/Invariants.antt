@@ -1,10 +1,10 @@
 use Rattle.std.proofs.Common.{◌≡◌, map, not}
 use Rattle.std.specs.List.{filter}
 use Rattle.toml.specs.View.{members_view, table_view}
-use Rattle.lib_read.specs.Fault.{first}
+use Rattle.lib_read.specs.Inner.Passes.{first}
 use Rattle.lib_read.specs.Tree.{keys_of}
 use Rattle.lib_read.specs.Faults.{is_known}
-use Rattle.lib_read.specs.Keys.{key_view}
+use Rattle.lib_read.specs.Inner.Keys.{key_view}
 use Rattle.lib_read.proofs.passes.unknown_key.Given as goal
 
 abbrev pub invariant-loop-name : goal.invariant-loop-name

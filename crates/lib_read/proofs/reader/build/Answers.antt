@@ -7,7 +7,7 @@ use Rattle.arch_model.specs.Template.{template_of, components_of, edges_of}
 use Rattle.lib_read.specs.declared.fault.TableName.TheVariants.{Types, Patterns}
 use Rattle.lib_read.specs.Tree.{rows_of}
 use Rattle.arch_model.specs.Library.{IsTypeRow, IsLinkRow, IsLibrary}
-use Rattle.lib_read.specs.Components.{names_of_type}
+use Rattle.lib_read.specs.Inner.Building.{names_of_type}
 use Rattle.lib_read.specs.Rows.{type_names, types_of, links_by, patterns_by}
 use Rattle.lib_read.proofs.CleanLibrary.{judged_parts, types_fit, links_fit, few_names, few_types, parts_are, pattern_rows_fit, is_library, as_many}
 use Rattle.lib_read.proofs.ComponentLemmas.{same_names}

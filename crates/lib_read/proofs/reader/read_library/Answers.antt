@@ -1,6 +1,6 @@
 use Rattle.std.proofs.Common.{arith, ap, ◌∙◌, option_map}
 use Rattle.toml.specs.View.{view}
-use Rattle.lib_read.specs.Keys.{fault_view}
+use Rattle.lib_read.specs.Inner.Keys.{fault_view}
 use Rattle.lib_read.proofs.PositionLemmas.{position_fits}
 use Rattle.lib_read.proofs.ReadLemmas.{library_is, no_document, too_many, fault_found, told_so}
 use Rattle.lib_read.proofs.reader.read_library.Goals as goal

@@ -5,7 +5,7 @@ use Rattle.lib_read.specs.declared.fault.TableName.TheVariants.{Links}
 use Rattle.lib_read.specs.Fault.{least}
 use Rattle.lib_read.specs.Tree.{rows_of}
 use Rattle.lib_read.specs.Faults.{link_ends, same_ends, repeated_links}
-use Rattle.lib_read.specs.Keys.{fault_view}
+use Rattle.lib_read.specs.Inner.Keys.{fault_view}
 use Rattle.lib_read.proofs.RepeatLemmas.{repeats_here, repeats_new, repeats_none, values_new, values_old, was_there, was_absent}
 use Rattle.lib_read.proofs.repeats.check_links.Goals as goal
 use Rattle.lib_read.proofs.repeats.check_links.Goals.{in-Some+in_ok-add+else-not-branch, in_default}

@@ -6,7 +6,7 @@ use Rattle.lib_read.specs.declared.fault.TableName.TheVariants.{Types}
 use Rattle.lib_read.specs.Fault.{least}
 use Rattle.lib_read.specs.Tree.{text_at, rows_of}
 use Rattle.lib_read.specs.Faults.{repeated_names}
-use Rattle.lib_read.specs.Keys.{fault_view}
+use Rattle.lib_read.specs.Inner.Keys.{fault_view}
 use Rattle.lib_read.proofs.RepeatLemmas.{repeats_here, repeats_new, repeats_none, values_new, values_old, was_there, was_absent}
 use Rattle.lib_read.proofs.repeats.type_names.Goals as goal
 use Rattle.lib_read.proofs.repeats.type_names.Goals.{in-Some+in_ok-add+else-not-branch, in_default}

@@ -2,7 +2,8 @@ use Rattle.std.proofs.Common.{map, string_bytes, ap, ◌∙◌}
 use Rattle.toml.specs.View.{view}
 use Rattle.lib_read.specs.declared.fault.TableName.TheVariants.{Patterns}
 use Rattle.lib_read.specs.Tree.{rows_of}
-use Rattle.lib_read.specs.Rows.{PatternFits, pattern_row}
+use Rattle.lib_read.specs.Rows.{pattern_row}
+use Rattle.lib_read.specs.Inner.Building.{PatternFits}
 use Rattle.lib_read.proofs.CleanLibrary.{row_of}
 use Rattle.lib_read.proofs.RepeatLemmas.{values_new, values_old}
 use Rattle.lib_read.proofs.rows.pattern_rows.Goals as goal

@@ -1,6 +1,5 @@
 use Rattle.std.proofs.Common.{◌≡◌, ◌++◌, take}
-use Rattle.arch_model.specs.Template.{instances_of}
-use Rattle.template.proofs.Steps.{edges_to}
+use Rattle.arch_model.specs.Template.{instances_of, edges_to}
 use Rattle.template.proofs.edges.push_edges_from.Given as goal
 
 abbrev pub invariant-loop-head : goal.invariant-loop-head

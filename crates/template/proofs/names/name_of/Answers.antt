@@ -9,5 +9,5 @@ bounds-types-component c = rw (c.components.ensures.rows, c.types.ensures.rows) 
 
 pub returns : goal.returns
 returns c =
-    let name = written_name c.args.lib.now c.components.result.now c.types.result.now c.args.c.0 c.index-types-component.result c.text-name.result.now c.components.ensures.library c.requires c.components.ensures.rows c.types.ensures.rows c.index-types-component.is c.text-name.ensures.text in
-    IfOk-weaker c.format.result _ _ (λ s e. e ∙ name) c.format.ensures.ok
+    let name = written_name c.args.lib.now c.components.result.now c.types.result.now c.args.c.0 c.index-types-component.result c.text.result.now c.components.ensures.library c.requires c.components.ensures.rows c.types.ensures.rows c.index-types-component.is c.text.ensures.text in
+    IfOk-weaker c.instance_name.result _ _ (λ s e. e ∙ name) c.instance_name.ensures

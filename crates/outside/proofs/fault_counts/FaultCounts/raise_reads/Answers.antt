@@ -1,4 +1,4 @@
-use Rattle.outside.specs.Counts.{after_failed_read}
+use Rattle.outside.specs.Inner.Counts.{after_failed_read}
 use Rattle.outside.proofs.CountLaws.{counts_after-own, counts_after-shared, counts-raised, read_raised, rose-reads}
 use Rattle.outside.proofs.fault_counts.FaultCounts.raise_reads.Goals as goal
 

@@ -1,4 +1,4 @@
-use Rattle.outside.specs.Counts.{after_failed_write}
+use Rattle.outside.specs.Inner.Counts.{after_failed_write}
 use Rattle.outside.proofs.CountLaws.{counts_after-own, counts_after-shared, counts-raised, write_raised, rose-writes}
 use Rattle.outside.proofs.fault_counts.FaultCounts.raise_writes.Goals as goal
 

@@ -1,8 +1,0 @@
-use Rattle.std.proofs.Common.{◌≡◌, ◌≤◌, take, sum_by}
-use Rattle.arch_model.specs.Set.{has}
-use Rattle.arch_model.specs.Architecture.{present}
-use Rattle.patterns.proofs.Sums.{leading_in}
-use Rattle.patterns.proofs.degrees.in_degree.Given as goal
-
-abbrev pub invariant-loop-e : goal.invariant-loop-e
-invariant-loop-e l = record { sum : l.total ≡ sum_by (leading_in l.lib l.t l.i.0) (present (has l.chosen) (take l.e l.edges)); small : l.total ≤ l.e }

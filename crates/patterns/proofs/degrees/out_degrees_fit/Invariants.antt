@@ -1,7 +1,0 @@
-use Rattle.std.proofs.Common.{ℕ, ◌<◌, IsTrue}
-use Rattle.arch_model.specs.Set.{has}
-use Rattle.arch_model.specs.Pattern.{is_instance, IsBetween, out_degree}
-use Rattle.patterns.proofs.degrees.out_degrees_fit.Given as goal
-
-abbrev pub invariant-loop-i : goal.invariant-loop-i
-invariant-loop-i l = (k : ℕ) → k < l.i → IsTrue (is_instance l.lib l.of k) → IsTrue (has l.arch.comps k) → IsBetween l.min l.max (out_degree l.lib l.arch l.to k)

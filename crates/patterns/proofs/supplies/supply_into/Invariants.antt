@@ -1,8 +1,0 @@
-use Rattle.std.proofs.Common.{◌≡◌, ◌≤◌, ◌*◌, ◌^◌, take, sum_by}
-use Rattle.arch_model.specs.Set.{has}
-use Rattle.arch_model.specs.Architecture.{present}
-use Rattle.patterns.proofs.Sums.{brought_by}
-use Rattle.patterns.proofs.supplies.supply_into.Given as goal
-
-abbrev pub invariant-loop-e : goal.invariant-loop-e
-invariant-loop-e l = record { sum : l.total ≡ sum_by (brought_by l.lib l.i.0) (present (has l.chosen) (take l.e l.edges)); small : l.total ≤ l.e * 10 ^ 12 }
