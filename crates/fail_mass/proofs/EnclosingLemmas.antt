@@ -7,7 +7,8 @@ use Rattle.arch_model.specs.Architecture.{IsArchitecture}
 use Rattle.arch_model.specs.Member.{member_count}
 use Rattle.arch_model.specs.Weight.{weight_of, ceil_div}
 use Rattle.arch_model.specs.Mass.{mass_of, mass_low, mass_high, enclosure_of}
-use Rattle.arch_model.specs.Set.{Set, has, empty, members_from}
+use Rattle.arch_model.specs.Set.{Set, has, empty}
+use Rattle.arch_model.specs.Inner.Sets.{members_from}
 use Rattle.fail_mass.specs.declared.network.Network.{Network}
 use Rattle.fail_mass.specs.Inner.Cases.{may_fail, enclosure_with}
 use Rattle.fail_mass.specs.Inner.Networks.{enclosure_from}

@@ -5,7 +5,8 @@ use Rattle.std.specs.List.{slice_get, range_with_len}
 use Rattle.std.specs.Option.{option_map_or}
 use Rattle.std.proofs.lemmas.Bool.{eqb-true, eq-eqb, lt-ltb, le-ltb}
 use Rattle.arch_model.specs.declared.template.Edge.{Edge}
-use Rattle.arch_model.specs.Set.{Set, has, members_from}
+use Rattle.arch_model.specs.Set.{Set, has}
+use Rattle.arch_model.specs.Inner.Sets.{members_from}
 use Rattle.arch_model.specs.Parts.{LibraryParts, ArchitectureParts}
 use Rattle.arch_model.specs.Library.{IsLibrary}
 use Rattle.arch_model.specs.Architecture.{IsArchitecture}
@@ -49,8 +50,8 @@ module _ (lib : LibraryParts) (arch : ArchitectureParts) (fits : IsArchitecture 
     alive_before : (c : ℕ) → not (g c) ≡ true → not (has failed c) ≡ true
     alive_before c h = not_of (g c) (has failed c) (wider c) h
 
-    leads_from : (c : ℕ) (more : List ℕ) → ((v : ℕ) → is_in (c ∷ more) v ≡ true → has arch.comps v ≡ true) → LeadsTo lib arch sink g (c ∷ more) → has above c ≡ true
-    leads_from c more here l = (leads c).1 (more, leads_less lib arch fits sink (has failed) g (λ v p. wider v) (c ∷ more) here l)
+    leads_from : (c : ℕ) (more : List ℕ) → LeadsTo lib arch sink g (c ∷ more) → has above c ≡ true
+    leads_from c more l = (leads c).1 (more, leads_less lib arch (has failed) g (λ e h. wider (length lib.components + e)) sink (c ∷ more) (λ v among. wider v) l)
 
     head_alive : (c : ℕ) (more : List ℕ) → LeadsTo lib arch sink g (c ∷ more) → not (g c) ≡ true
     head_alive c [] l = l.0
@@ -81,12 +82,12 @@ module _ (lib : LibraryParts) (arch : ArchitectureParts) (fits : IsArchitecture 
         let e : true ≡ false = sym (edge_between c d k edge r a is ends) ∙ ap (is_between lib reached above) (sym it) ∙ off in cc)) (and_right (has arch.edges k) (not (g (length lib.components + k))) on))) j
 
     leads_after : (c : ℕ) (more : List ℕ) → has reached c ≡ true → ((v : ℕ) → is_in (c ∷ more) v ≡ true → has arch.comps v ≡ true) → LeadsTo lib arch sink g (c ∷ more) → LeadsTo lib arch sink g' (c ∷ more)
-    leads_after c [] r here l = (alive_after c (here c (or_left (nat_eq c c) false (eq-eqb c c refl))) r (leads_from c [] here l) l.0, l.1)
+    leads_after c [] r here l = (alive_after c (here c (or_left (nat_eq c c) false (eq-eqb c c refl))) r (leads_from c [] l) l.0, l.1)
     leads_after c (d ∷ more) r here l =
         let there = here d (or_right (nat_eq c d) (is_in (d ∷ more) d) (or_left (nat_eq d d) (is_in more d) (eq-eqb d d refl))) in (
-          alive_after c (here c (or_left (nat_eq c c) (is_in (d ∷ more) c) (eq-eqb c c refl))) r (leads_from c (d ∷ more) here l) l.0,
-          joins_after c d r (leads_from d more (λ v i. here v (or_right (nat_eq c v) (is_in (d ∷ more) v) i)) l.2) l.1,
-          leads_after d more (reach_on c d r there (alive_before d (head_alive d more l.2)) (joins_less lib arch fits sink (has failed) g (λ v p. wider v) c d l.1)) (λ v i. here v (or_right (nat_eq c v) (is_in (d ∷ more) v) i)) l.2,
+          alive_after c (here c (or_left (nat_eq c c) (is_in (d ∷ more) c) (eq-eqb c c refl))) r (leads_from c (d ∷ more) l) l.0,
+          joins_after c d r (leads_from d more l.2) l.1,
+          leads_after d more (reach_on c d r there (alive_before d (head_alive d more l.2)) (joins_less lib arch (has failed) g (λ e h. wider (length lib.components + e)) c d l.1)) (λ v i. here v (or_right (nat_eq c v) (is_in (d ∷ more) v) i)) l.2,
         )
 
     path_after : (p : List ℕ) → IsPath lib arch sink g p → LeadsTo lib arch sink g' p

@@ -2,7 +2,8 @@
 use Rattle.std.proofs.Common.{◌≡◌, ℕ, zero, suc, ◌+◌, ◌-◌, ◌^◌, ◌<◌, ◌≤◌, Bool, true, false, cond, not, ◌||◌, ◌&&◌, nat_eq, ltb, List, ◌∷◌, ◌++◌, filter, refl, sym, ap, ◌∙◌, arith, ◌⊎◌, inl, inr}
 use Rattle.std.specs.List.{range_with_len}
 use Rattle.std.proofs.lemmas.Bool.{eqb-true, lt-ltb, cases_lt}
-use Rattle.arch_model.specs.Set.{Set, has, empty, put, union, minus, members_from, members_below}
+use Rattle.arch_model.specs.Set.{Set, has, empty, put, union, minus, members_below}
+use Rattle.arch_model.specs.Inner.Sets.{members_from}
 use Rattle.arch_model.specs.Parts.{LibraryParts, ArchitectureParts}
 use Rattle.arch_model.specs.Library.{IsLibrary}
 use Rattle.arch_model.specs.Architecture.{IsArchitecture}

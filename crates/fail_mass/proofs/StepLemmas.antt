@@ -1,6 +1,7 @@
 -- What conditioning answers, as the pair of its two roundings.
 use Rattle.std.proofs.Common.{◌≡◌, ℕ, ◌+◌, ◌/◌, ◌^◌, ◌<◌, ◌≤◌, true, false, cond, ◌||◌, [], sym, ap, ◌∙◌, List, inl, inr}
-use Rattle.arch_model.specs.Set.{Set, has, empty, put, minus, members_from}
+use Rattle.arch_model.specs.Set.{Set, has, empty, put, minus}
+use Rattle.arch_model.specs.Inner.Sets.{members_from}
 use Rattle.arch_model.specs.Parts.{LibraryParts, ArchitectureParts}
 use Rattle.arch_model.specs.Library.{IsLibrary}
 use Rattle.arch_model.specs.Architecture.{IsArchitecture}

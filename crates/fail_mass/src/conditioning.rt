@@ -1,6 +1,7 @@
 // Conditioning on the members that are undecided, one by one.
 ghost use Rattle.std.specs.Prelude.{◌≡◌, ℕ, ◌<◌, ◌≤◌, ◌^◌, false, IsTrue};
 ghost use Rattle.std.specs.Option.{option_map};
+ghost use Rattle.arch_model.specs.Inner.Sets.{IsNext};
 ghost use Rattle.arch_model.specs.Set as set;
 ghost use Rattle.fail_mass.specs.Inner.Networks.{IsNetwork, AreMembers, is_parted, enclosure_from};
 
@@ -30,7 +31,7 @@ fn but(members: &MemberSet, v: VarId) -> MemberSet
 
 // The least of some members from a number on.
 fn next_of(members: &MemberSet, from: usize) -> Option<VarId>
-    ensures { set.IsNext members.now from (option_map (λ v. v.0) result) }
+    ensures { IsNext members.now from (option_map (λ v. v.0) result) }
 {
     let v = members.next_from(from)?;
     Some(VarId(v as u32))

@@ -1,6 +1,7 @@
 -- What conditioning knows of the network that it asks, and what it asks of it.
 use Rattle.std.specs.Prelude.{ℕ, ◌<◌, Bool, IsTrue}
-use Rattle.arch_model.specs.Set.{Set, has, empty, members_from}
+use Rattle.arch_model.specs.Set.{Set, has, empty}
+use Rattle.arch_model.specs.Inner.Sets.{members_from}
 use Rattle.arch_model.specs.Library.{IsLibrary}
 use Rattle.arch_model.specs.Architecture.{IsArchitecture}
 use Rattle.arch_model.specs.Member.{member_count}
