@@ -93,7 +93,7 @@ item_taken lib rows row old new item before some is one members items =
       records = one ∙ ap (λ n. n + 1) before.records ∙ sym (length-append rows (row ∷ []));
       members = members ∙ ap (λ arch. with_item arch item) before.members ∙ sym (members_more lib rows row item named);
       edge_records = items ∙ ap (λ n. old.edge_records.items ++ edges_of_item (n + 1) item) before.records ∙ ap (λ es. es ++ edges_of_item (length rows + 1) item) before.edge_records
-        ∙ sym (edges_more lib rows row ∙ ap (λ r. edge_records lib rows ++ option_to_list (edge_only (length rows + 1) r)) named ∙ ap (λ es. edge_records lib rows ++ es) (only_edges (length rows + 1) item));
+          ∙ sym (edges_more lib rows row ∙ ap (λ r. edge_records lib rows ++ option_to_list (edge_only (length rows + 1) r)) named ∙ ap (λ es. edge_records lib rows ++ es) (only_edges (length rows + 1) item));
       clear = clear_more lib rows row before.clear fine;
     }
 

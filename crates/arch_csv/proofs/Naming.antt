@@ -64,6 +64,7 @@ joined_here lib e t h short tail head =
   where
     both : (a b : Bool) → a ≡ true → b ≡ true → (a && b) ≡ true
     both a b p q = rw (p, q) refl
+
     same : (n : ℕ) → nat_eq n n ≡ true
     same n = elim (eqb_tells n n) [ inl w ↦ w.0 | inr w ↦ absurd (w.1 refl) ]
 

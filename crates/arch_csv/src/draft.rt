@@ -70,7 +70,8 @@ impl Draft {
     fn put(&mut self, item: Item, place: u64) -> Result<(), Memory>
         requires { IsItem COMPONENTS EDGES item }
         ensures members { OnOk result (draft_members self.new ≡ with_item (draft_members self.old) item) }
-        ensures edges { OnOk result (self.new.edge_records.items ≡ self.old.edge_records.items ++ edges_of_item place item) }
+        ensures edges { OnOk result (self.new.edge_records.items
+            ≡ self.old.edge_records.items ++ edges_of_item place item) }
         ensures records { self.new.records ≡ self.old.records }
     {
         match item {

@@ -11,9 +11,13 @@ use csv::ByteRecord;
 use template::{find_component, find_edge};
 
 const KIND: &[u8] = b"kind";
+
 const FROM: &[u8] = b"from";
+
 const TO: &[u8] = b"to";
+
 const COMPONENT: &[u8] = b"component";
+
 const EDGE: &[u8] = b"edge";
 
 /// A component or an edge of a library.

@@ -89,7 +89,13 @@ edge,bus.2,load.1
         (chain.as_bytes(), chain),
         // in any order
         (
-            b"kind,from,to\nedge,bus.2,load.1\ncomponent,load.1,\ncomponent,bus.2,\nedge,gen.1,bus.2\ncomponent,gen.1,\n",
+            b"kind,from,to
+edge,bus.2,load.1
+component,load.1,
+component,bus.2,
+edge,gen.1,bus.2
+component,gen.1,
+",
             chain,
         ),
         // the last line without an end, and lines that end in CR LF or in CR alone
@@ -133,12 +139,24 @@ fn faulty_files_are_refused(rt: HostRuntime) -> Result<(), Fail> {
         (b"kind,from,to\ncomponent,gen.3,\n", "2 UnknownName"),
         (b"kind,from,to\ncomponent, gen.1,\n", "2 UnknownName"),
         (b"kind,from,to\ncomponent,gen.\xff,\n", "2 UnknownName"),
-        (b"kind,from,to\ncomponent,\xef\xbb\xbfgen.1,\n", "2 UnknownName"),
+        (
+            b"kind,from,to\ncomponent,\xef\xbb\xbfgen.1,\n",
+            "2 UnknownName",
+        ),
         (b"kind,from,to\ncomponent,gen.1,gen.2\n", "2 UnknownName"),
         (b"kind,from,to\nedge,bus.1,gen.1\n", "2 UnknownName"),
-        (b"kind,from,to\ncomponent,gen.1,\ncomponent,gen.1,\n", "3 Duplicate"),
-        (b"kind,from,to\nedge,gen.1,bus.1\nedge,gen.1,bus.1\n", "3 Duplicate"),
-        (b"kind,from,to\ncomponent,gen.1,\nedge,gen.1,bus.1\n", "3 MissingEnd"),
+        (
+            b"kind,from,to\ncomponent,gen.1,\ncomponent,gen.1,\n",
+            "3 Duplicate",
+        ),
+        (
+            b"kind,from,to\nedge,gen.1,bus.1\nedge,gen.1,bus.1\n",
+            "3 Duplicate",
+        ),
+        (
+            b"kind,from,to\ncomponent,gen.1,\nedge,gen.1,bus.1\n",
+            "3 MissingEnd",
+        ),
         // the first of several ends, and a later record's fault before an end
         (
             b"kind,from,to\nedge,gen.2,bus.1\nedge,gen.1,bus.1\ncomponent,bus.1,\n",
@@ -148,7 +166,10 @@ fn faulty_files_are_refused(rt: HostRuntime) -> Result<(), Fail> {
         // blank lines aren't counted
         (b"\nkind,from,to\n\n\nbus,,\n", "2 Kind"),
         // a quote that isn't closed
-        (b"kind,from,to\ncomponent,\"gen.1,\nedge,gen.1,bus.1\n", "2 Fields"),
+        (
+            b"kind,from,to\ncomponent,\"gen.1,\nedge,gen.1,bus.1\n",
+            "2 Fields",
+        ),
         (b"kind,from,to\ncomponent,gen.1,\"\n", "2 UnknownName"),
     ];
     for (bytes, fault) in rows {

@@ -13,17 +13,20 @@ loop-row-init c =
     let start = c.into_iter-row-iterator.ensures.into_iter_gives ∙ refl in
     let rdr = c.into_byte_records-rows.ensures.rdr in
     let left = c.into_byte_records-rows.ensures.left in
-    rw (start, rdr) (left, record {
-      trim = rw (g, e) at fr.trim ∙ c.new.ensures.trim;
-      ready = inr (inr (rw (g, e) at fr.has_headers, fr.headers));
-      config = rw (g, e) at fr.config ∙ c.new.ensures.config;
-      flexible = rw g at fr.flexible;
-      rest = strip_bom c.args.bytes.now;
-      source = fr.source;
-      rows = [];
-      reached = (sym fr.state, refl);
-      draft = c.in_ok-draft.ensures.empty;
-    })
+    rw (start, rdr) (
+      left,
+      record {
+        trim = rw (g, e) at fr.trim ∙ c.new.ensures.trim;
+        ready = inr (inr (rw (g, e) at fr.has_headers, fr.headers));
+        config = rw (g, e) at fr.config ∙ c.new.ensures.config;
+        flexible = rw g at fr.flexible;
+        rest = strip_bom c.args.bytes.now;
+        source = fr.source;
+        rows = [];
+        reached = (sym fr.state, refl);
+        draft = c.in_ok-draft.ensures.empty;
+      },
+    )
 
 pub take-requires-clause-few : goal.take-requires-clause-few
 take-requires-clause-few c =
