@@ -1,17 +1,17 @@
 -- For tests: without edges, patterns and requirements no rows decide, and a list of cuts grows by one over the variables.
-use Rattle.std.proofs.Common.{◌≡◌, ℕ, ◌<◌, Bool, List, [], ◌∷◌, ◌++◌, length, ap, arith, IsTrue}
-use Rattle.std.specs.List.{All, flat_map, enumerate_from}
-use Rattle.std.proofs.lemmas.List.Elements.{All-push}
+use Rattle.std.proofs.Common.{◌≡◌, ℕ, ◌<◌, Bool, List, [], ◌∷◌, ◌++◌, length, ap, subst, ◌∙◌, arith, IsTrue}
+use Rattle.std.specs.List.{All}
+use Rattle.std.proofs.lemmas.List.Elements.{All-push, All-same}
 use Rattle.arch_model.specs.declared.template.Edge.{Edge}
 use Rattle.arch_model.specs.declared.library.Requirement.{Requirement}
-use Rattle.arch_model.specs.Set.{has}
+use Rattle.arch_model.specs.Set.{Set, has}
 use Rattle.arch_model.specs.Parts.{LibraryParts}
 use Rattle.arch_model.specs.Library.{IsLibrary}
 use Rattle.arch_model.specs.Member.{member_count}
 use Rattle.arch_model.specs.Pattern.{MeetsPattern}
 use Rattle.rows.specs.Parts.{RowParts, CutParts}
 use Rattle.rows.specs.Row.{RowHolds, IsRowBelow}
-use Rattle.rows.specs.BaseRows.{edge_rows, member_row, plus, minus}
+use Rattle.rows.specs.BaseRows.{edge_rows}
 use Rattle.rows.specs.Known.{IsCutBelow}
 use Rattle.rows.specs.Problem.{DecidePatterns}
 use Rattle.rows.proofs.VectorLaws.{edge_rows_say}
@@ -42,5 +42,9 @@ free_decides lib rows right edges patterns requirements none = record {
   );
 }
 
-pub learned : (n : ℕ) (cuts : List CutParts) (cut : CutParts) → All (IsCutBelow n) cuts → ((k : ℕ) → IsTrue (has cut.plus k) → k < n) → ((k : ℕ) → IsTrue (has cut.minus k) → k < n) → All (IsCutBelow n) (cuts ++ cut ∷ [])
-learned n cuts cut all plus minus = All-push (IsCutBelow n) cuts cut all (record { plus = plus; minus = minus })
+pub learned : (lib own : LibraryParts) (n : ℕ) (cuts next : List CutParts) (cut : CutParts) (plus minus : Set) → n ≡ member_count own → own ≡ lib → plus ≡ cut.plus → minus ≡ cut.minus → ((k : ℕ) → IsTrue (has plus k) → k < n)
+    → ((k : ℕ) → IsTrue (has minus k) → k < n) → All (IsCutBelow (member_count lib)) cuts → next ≡ cuts ++ cut ∷ [] → All (IsCutBelow (member_count lib)) next
+learned lib own n cuts next cut plus minus count same p m low_plus low_minus all grown =
+    let P : ℕ → Type 0 = λ k. IsCutBelow k cut in
+    let new : IsCutBelow n cut = record { plus = λ k h. low_plus k (ap (λ s. has s k) p ∙ h); minus = λ k h. low_minus k (ap (λ s. has s k) m ∙ h) } in
+    All-same (IsCutBelow (member_count lib)) next (cuts ++ cut ∷ []) grown (All-push (IsCutBelow (member_count lib)) cuts cut all (subst P (count ∙ ap member_count same) new))

@@ -47,24 +47,28 @@ fn sources(rt: &(impl Abort + AllocGlobal), max: u32, cost: u64) -> Result<Probl
     Ok(Problem::new(library, Vec::new(alloc)))
 }
 
-// The cut that the sum over the variables from..to is at least this.
-fn at_least(rt: &impl Abort, least: i128, from: u32, to: u32) -> CutRow {
-    assert!(rt; 0 <= least && least <= 2);
-    let mut cut = CutRow::new(least);
-    for v in from..to {
-        assert!(rt; (v as usize) < MEMBERS);
-        assert_eq!(rt; cut.coef(VarId(v)), 0);
-        cut.put(VarId(v), true);
+// Gives a variable the coefficient 1 or -1.
+fn put(rt: &impl Abort, cut: &mut CutRow, v: u32, plus: bool) {
+    assert!(rt; (v as usize) < MEMBERS);
+    assert_eq!(rt; cut.coef(VarId(v)), 0);
+    cut.put(VarId(v), plus);
+}
+
+// The cut x_v + x_w >= 1, or x_v >= 1 where both are one.
+fn either(rt: &impl Abort, v: u32, w: u32) -> CutRow {
+    let mut cut = CutRow::new(1);
+    put(rt, &mut cut, v, true);
+    if v != w {
+        put(rt, &mut cut, w, true);
     }
     cut
 }
 
 // The cut that x_v asks for x_w: x_w - x_v >= 0.
 fn asks(rt: &impl Abort, v: u32, w: u32) -> CutRow {
-    let mut cut = at_least(rt, 0, w, w + 1);
-    assert!(rt; (v as usize) < MEMBERS);
-    assert_eq!(rt; cut.coef(VarId(v)), 0);
-    cut.put(VarId(v), false);
+    let mut cut = CutRow::new(0);
+    put(rt, &mut cut, w, true);
+    put(rt, &mut cut, v, false);
     cut
 }
 
@@ -122,8 +126,11 @@ fn without_first(rt: &impl Abort) -> Cube {
 fn a_pair_of_which_one_is_asked_for(rt: HostRuntime) -> Result<(), Fail> {
     let problem = sources(&rt, 2, 3)?;
     let mut cuts = CutList::new(rt.alloc());
-    learn(&rt, &problem, &mut cuts, at_least(&rt, 1, 0, 2))?;
-    learn(&rt, &problem, &mut cuts, at_least(&rt, 2, 0, 2))?;
+    learn(&rt, &problem, &mut cuts, either(&rt, 0, 1))?;
+    let mut two = CutRow::new(2);
+    put(&rt, &mut two, 0, true);
+    put(&rt, &mut two, 1, true);
+    learn(&rt, &problem, &mut cuts, two)?;
     let one = Known {
         problem: &problem,
         cuts: &cuts,
@@ -152,7 +159,7 @@ fn a_chain_in_the_worse_order_takes_a_pass_a_link(rt: HostRuntime) -> Result<(),
     learn(&rt, &problem, &mut cuts, asks(&rt, 2, 3))?;
     learn(&rt, &problem, &mut cuts, asks(&rt, 1, 2))?;
     learn(&rt, &problem, &mut cuts, asks(&rt, 0, 1))?;
-    learn(&rt, &problem, &mut cuts, at_least(&rt, 1, 0, 1))?;
+    learn(&rt, &problem, &mut cuts, either(&rt, 0, 0))?;
     let known = Known {
         problem: &problem,
         cuts: &cuts,
@@ -180,7 +187,7 @@ fn twelve_pairs_and_a_cost_row(rt: HostRuntime) -> Result<(), Fail> {
     };
     expect(&rt, &known, Cube::whole(), "full", &[RowRef::Cost; 24])?;
     for i in 0..12 {
-        learn(&rt, &problem, &mut cuts, at_least(&rt, 1, 2 * i, 2 * i + 2))?;
+        learn(&rt, &problem, &mut cuts, either(&rt, 2 * i, 2 * i + 1))?;
     }
     let pairs = Known {
         problem: &problem,
