@@ -180,8 +180,16 @@ fn pair(
     library(rt, &types, &[link(0, 1, joined)])
 }
 
+// The components and edges of an architecture, and the sets of a sink in it.
+#[derive(Drop)]
+struct Case {
+    comps: &'static [u32],
+    edges: &'static [u32],
+    sets: &'static [&'static [u32]],
+}
+
 // That exactly these sets come, in this order.
-fn expect(
+fn expect_sets(
     rt: &(impl Abort + AllocGlobal),
     lib: &Library,
     arch: &Architecture,
@@ -196,6 +204,13 @@ fn expect(
         count += 1;
     }
     assert_eq!(rt; count, sets.len());
+}
+
+fn expect(rt: &(impl Abort + AllocGlobal), lib: &Library, sink: u32, cases: &[Case]) {
+    for case in cases {
+        let arch = architecture(case.comps, case.edges);
+        expect_sets(rt, lib, &arch, sink, case.sets);
+    }
 }
 
 // That this is the only set.
@@ -217,40 +232,83 @@ fn expect_one(
 
 #[test]
 fn buses_have_sets_by_their_links(rt: HostRuntime) -> Result<(), Fail> {
-    let lib = buses(&rt)?;
-    let arch = architecture(&[0, 1, 2, 3, 4], &[0, 3, 4, 5]);
-    expect(&rt, &lib, &arch, 4, &[&[0, 1], &[0, 3], &[1, 2], &[2, 3]]);
-    let chain = architecture(&[0, 2, 4], &[0, 4]);
-    expect(&rt, &lib, &chain, 4, &[&[0], &[2]]);
-    let one_generator = architecture(&[0, 2, 3, 4], &[0, 1, 4, 5]);
-    expect(&rt, &lib, &one_generator, 4, &[&[0], &[2, 3]]);
-    let one_bus = architecture(&[0, 1, 2, 4], &[0, 2, 4]);
-    expect(&rt, &lib, &one_bus, 4, &[&[0, 1], &[2]]);
-    let three_links = architecture(&[0, 1, 2, 3, 4], &[0, 1, 3, 4, 5]);
-    expect(&rt, &lib, &three_links, 4, &[&[0, 1], &[0, 3], &[2, 3]]);
-    let all = architecture(&[0, 1, 2, 3, 4], &[0, 1, 2, 3, 4, 5]);
-    expect(&rt, &lib, &all, 4, &[&[0, 1], &[2, 3]]);
+    let cases = [
+        Case {
+            comps: &[0, 2, 4],
+            edges: &[0, 4],
+            sets: &[&[0], &[2]],
+        },
+        Case {
+            comps: &[0, 2, 3, 4],
+            edges: &[0, 1, 4, 5],
+            sets: &[&[0], &[2, 3]],
+        },
+        Case {
+            comps: &[0, 1, 2, 4],
+            edges: &[0, 2, 4],
+            sets: &[&[0, 1], &[2]],
+        },
+        Case {
+            comps: &[0, 1, 2, 3, 4],
+            edges: &[0, 3, 4, 5],
+            sets: &[&[0, 1], &[0, 3], &[1, 2], &[2, 3]],
+        },
+        Case {
+            comps: &[0, 1, 2, 3, 4],
+            edges: &[0, 1, 3, 4, 5],
+            sets: &[&[0, 1], &[0, 3], &[2, 3]],
+        },
+        Case {
+            comps: &[0, 1, 2, 3, 4],
+            edges: &[0, 1, 2, 3, 4, 5],
+            sets: &[&[0, 1], &[2, 3]],
+        },
+        // a load that nothing reaches, and one that is absent
+        Case {
+            comps: &[4],
+            edges: &[],
+            sets: &[&[]],
+        },
+        Case {
+            comps: &[0, 2],
+            edges: &[0],
+            sets: &[&[]],
+        },
+    ];
+    expect(&rt, &buses(&rt)?, 4, &cases);
     Ok(())
 }
 
 #[test]
-fn a_sink_that_nothing_reaches_has_the_empty_set(rt: HostRuntime) -> Result<(), Fail> {
-    let lib = buses(&rt)?;
-    expect(&rt, &lib, &architecture(&[4], &[]), 4, &[&[]]);
-    expect(&rt, &lib, &architecture(&[0, 2], &[0]), 4, &[&[]]);
-    expect(&rt, &lib, &architecture(&[], &[]), 63, &[&[]]);
+fn a_number_that_no_component_has_is_an_absent_sink(rt: HostRuntime) -> Result<(), Fail> {
+    let none = [Case {
+        comps: &[0, 2],
+        edges: &[0],
+        sets: &[&[]],
+    }];
+    expect(&rt, &buses(&rt)?, 63, &none);
+    Ok(())
+}
+
+// That a source and the sink that it feeds have these sets.
+fn expect_pair(
+    rt: &(impl Abort + AllocGlobal),
+    source: u32,
+    joined: u32,
+    sink: u32,
+    sets: &'static [&'static [u32]],
+) -> Result<(), Fail> {
+    let lib = pair(rt, source, joined, sink)?;
+    expect_sets(rt, &lib, &architecture(&[0, 1], &[0]), 1, sets);
     Ok(())
 }
 
 #[test]
-fn the_sink_and_an_edge_may_be_members(rt: HostRuntime) -> Result<(), Fail> {
-    let whole = architecture(&[0, 1], &[0]);
-    expect(&rt, &pair(&rt, 1000, 0, 10)?, &whole, 1, &[&[0], &[1]]);
-    expect(&rt, &pair(&rt, 1000, 500, 0)?, &whole, 1, &[&[0], &[2]]);
-    let sure = pair(&rt, 1_000_000, 0, 1)?;
-    expect(&rt, &sure, &whole, 1, &[&[0], &[1]]);
-    expect(&rt, &pair(&rt, 0, 0, 0)?, &whole, 1, &[]);
-    Ok(())
+fn whatever_may_fail_is_a_member(rt: HostRuntime) -> Result<(), Fail> {
+    expect_pair(&rt, 1000, 0, 10, &[&[0], &[1]])?;
+    expect_pair(&rt, 1000, 500, 0, &[&[0], &[2]])?;
+    expect_pair(&rt, 1_000_000, 0, 0, &[&[0]])?;
+    expect_pair(&rt, 0, 0, 0, &[])
 }
 
 // A source feeds eight buses, each of which feeds eight others, and these feed the sink. Only the
@@ -283,12 +341,24 @@ fn sixty_four_members_are_one_set(rt: HostRuntime) -> Result<(), Fail> {
 
 #[test]
 fn sets_with_a_member_that_never_fails_are_left_out(rt: HostRuntime) -> Result<(), Fail> {
-    let lib = bypass(&rt)?;
-    let arch = architecture(&[0, 1, 2, 3, 4], &[0, 1, 2, 3]);
-    expect(&rt, &lib, &arch, 4, &[&[0, 2], &[0, 3]]);
-    expect(&rt, &lib, &architecture(&[0, 4], &[0]), 4, &[&[0]]);
-    let long = architecture(&[1, 2, 3, 4], &[1, 2, 3]);
-    expect(&rt, &lib, &long, 4, &[&[2], &[3]]);
+    let cases = [
+        Case {
+            comps: &[0, 4],
+            edges: &[0],
+            sets: &[&[0]],
+        },
+        Case {
+            comps: &[1, 2, 3, 4],
+            edges: &[1, 2, 3],
+            sets: &[&[2], &[3]],
+        },
+        Case {
+            comps: &[0, 1, 2, 3, 4],
+            edges: &[0, 1, 2, 3],
+            sets: &[&[0, 2], &[0, 3]],
+        },
+    ];
+    expect(&rt, &bypass(&rt)?, 4, &cases);
     Ok(())
 }
 
@@ -302,8 +372,12 @@ fn buses_in_a_circle_are_one_chain(rt: HostRuntime) -> Result<(), Fail> {
         row("load", Role::Sink, 1, 0),
     ];
     let lib = library(&rt, &types, &[link(0, 1, 0), link(1, 2, 0), link(1, 1, 0)])?;
-    let circle = architecture(&[0, 1, 2, 3], &[0, 3, 4, 5]);
-    expect(&rt, &lib, &circle, 3, &[&[0], &[1], &[2]]);
+    let circle = [Case {
+        comps: &[0, 1, 2, 3],
+        edges: &[0, 3, 4, 5],
+        sets: &[&[0], &[1], &[2]],
+    }];
+    expect(&rt, &lib, 3, &circle);
     Ok(())
 }
 
@@ -331,6 +405,6 @@ fn dense_layers_are_their_own_sets(rt: HostRuntime) -> Result<(), Fail> {
         &[12, 13, 14, 15, 16, 17],
         &[18],
     ];
-    expect(&rt, &lib, &Architecture::new(comps, edges), 18, &layers);
+    expect_sets(&rt, &lib, &Architecture::new(comps, edges), 18, &layers);
     Ok(())
 }

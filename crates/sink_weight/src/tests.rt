@@ -6,6 +6,7 @@ use arch_model::{
     Architecture, CompId, CompSet, Component, Edge, EdgeId, EdgeSet, Library, LinkRow, Name, Role,
     Template, TypeRow, VarId, fits, is_library,
 };
+use cut_sets::Members;
 use std::alloc::Global;
 use std::process::Abort;
 use std::test::Fail;
@@ -180,8 +181,26 @@ fn pair(
     library(rt, &types, &[link(0, 1, joined)])
 }
 
+// The components and edges of an architecture, and what a sink weighs in it, with its heaviest set.
+#[derive(Drop)]
+struct Case {
+    comps: &'static [u32],
+    edges: &'static [u32],
+    weighs: u128,
+    set: Option<&'static [u32]>,
+}
+
+// Whether a set, if any, has these numbers.
+fn is_set(found: &Option<Members>, set: Option<&'static [u32]>) -> bool {
+    match (found, set) {
+        (Some(members), Some(numbers)) => are(members.as_slice(), numbers),
+        (None, None) => true,
+        _ => false,
+    }
+}
+
 // That a sink weighs this much, and has this heaviest set, or none.
-fn expect(
+fn expect_one(
     rt: &(impl Abort + AllocGlobal),
     lib: &Library,
     arch: &Architecture,
@@ -192,60 +211,99 @@ fn expect(
     assert!(rt; fits(lib, arch));
     assert_eq!(rt; weight(rt.alloc(), lib, arch, CompId(sink)), weighs);
     let found = heaviest(rt.alloc(), lib, arch, CompId(sink));
-    match (&found, set) {
-        (Some(members), Some(numbers)) => assert!(rt; are(members.as_slice(), numbers)),
-        (None, None) => {}
-        _ => assert!(rt; false),
-    }
+    assert!(rt; is_set(&found, set));
     let both = weigh(rt.alloc(), lib, arch, CompId(sink));
     assert_eq!(rt; both.weight, weighs);
-    assert_eq!(rt; both.heaviest.is_some(), set.is_some());
+    assert!(rt; is_set(&both.heaviest, set));
+}
+
+fn expect(rt: &(impl Abort + AllocGlobal), lib: &Library, sink: u32, cases: &[Case]) {
+    for case in cases {
+        let arch = architecture(case.comps, case.edges);
+        expect_one(rt, lib, &arch, sink, case.weighs, case.set);
+    }
 }
 
 #[test]
 fn buses_weigh_by_their_links(rt: HostRuntime) -> Result<(), Fail> {
-    let lib = buses(&rt)?;
-    let chain = architecture(&[0, 2, 4], &[0, 4]);
-    expect(&rt, &lib, &chain, 4, 1_100_000_000_000_000, Some(&[0]));
-    let two_buses = architecture(&[0, 2, 3, 4], &[0, 1, 4, 5]);
-    expect(&rt, &lib, &two_buses, 4, 1_000_010_000_000_000, Some(&[0]));
-    let two_generators = architecture(&[0, 1, 2, 4], &[0, 2, 4]);
-    expect(
-        &rt,
-        &lib,
-        &two_generators,
-        4,
-        101_000_000_000_000,
-        Some(&[2]),
-    );
-    let two_chains = architecture(&[0, 1, 2, 3, 4], &[0, 3, 4, 5]);
-    expect(&rt, &lib, &two_chains, 4, 1_210_000_000_000, Some(&[0, 1]));
-    let three_links = architecture(&[0, 1, 2, 3, 4], &[0, 1, 3, 4, 5]);
-    expect(&rt, &lib, &three_links, 4, 1_110_000_000_000, Some(&[0, 1]));
-    let all = architecture(&[0, 1, 2, 3, 4], &[0, 1, 2, 3, 4, 5]);
-    expect(&rt, &lib, &all, 4, 1_010_000_000_000, Some(&[0, 1]));
-    Ok(())
-}
-
-#[test]
-fn a_sink_that_nothing_reaches_weighs_1(rt: HostRuntime) -> Result<(), Fail> {
-    let lib = buses(&rt)?;
-    let alone = architecture(&[4], &[]);
-    expect(&rt, &lib, &alone, 4, 1_000_000_000_000_000_000, Some(&[]));
-    let absent = architecture(&[0, 2], &[0]);
-    expect(&rt, &lib, &absent, 4, 1_000_000_000_000_000_000, Some(&[]));
+    let cases = [
+        Case {
+            comps: &[0, 2, 4],
+            edges: &[0, 4],
+            weighs: 1_100_000_000_000_000,
+            set: Some(&[0]),
+        },
+        Case {
+            comps: &[0, 2, 3, 4],
+            edges: &[0, 1, 4, 5],
+            weighs: 1_000_010_000_000_000,
+            set: Some(&[0]),
+        },
+        Case {
+            comps: &[0, 1, 2, 4],
+            edges: &[0, 2, 4],
+            weighs: 101_000_000_000_000,
+            set: Some(&[2]),
+        },
+        Case {
+            comps: &[0, 1, 2, 3, 4],
+            edges: &[0, 3, 4, 5],
+            weighs: 1_210_000_000_000,
+            set: Some(&[0, 1]),
+        },
+        Case {
+            comps: &[0, 1, 2, 3, 4],
+            edges: &[0, 1, 3, 4, 5],
+            weighs: 1_110_000_000_000,
+            set: Some(&[0, 1]),
+        },
+        Case {
+            comps: &[0, 1, 2, 3, 4],
+            edges: &[0, 1, 2, 3, 4, 5],
+            weighs: 1_010_000_000_000,
+            set: Some(&[0, 1]),
+        },
+        // a load that nothing reaches, and one that is absent
+        Case {
+            comps: &[4],
+            edges: &[],
+            weighs: 1_000_000_000_000_000_000,
+            set: Some(&[]),
+        },
+        Case {
+            comps: &[0, 2],
+            edges: &[0],
+            weighs: 1_000_000_000_000_000_000,
+            set: Some(&[]),
+        },
+    ];
+    expect(&rt, &buses(&rt)?, 4, &cases);
     Ok(())
 }
 
 #[test]
 fn more_edges_may_weigh_more(rt: HostRuntime) -> Result<(), Fail> {
-    let lib = bypass(&rt)?;
-    let direct = architecture(&[0, 4], &[0]);
-    expect(&rt, &lib, &direct, 4, 200_000_000_000_000_000, Some(&[0]));
-    let all = architecture(&[0, 1, 2, 3, 4], &[0, 1, 2, 3]);
-    expect(&rt, &lib, &all, 4, 240_000_000_000_000_000, Some(&[0, 2]));
-    let long = architecture(&[1, 2, 3, 4], &[1, 2, 3]);
-    expect(&rt, &lib, &long, 4, 1_200_000_000_000_000_000, Some(&[2]));
+    let cases = [
+        Case {
+            comps: &[0, 4],
+            edges: &[0],
+            weighs: 200_000_000_000_000_000,
+            set: Some(&[0]),
+        },
+        Case {
+            comps: &[0, 1, 2, 3, 4],
+            edges: &[0, 1, 2, 3],
+            weighs: 240_000_000_000_000_000,
+            set: Some(&[0, 2]),
+        },
+        Case {
+            comps: &[1, 2, 3, 4],
+            edges: &[1, 2, 3],
+            weighs: 1_200_000_000_000_000_000,
+            set: Some(&[2]),
+        },
+    ];
+    expect(&rt, &bypass(&rt)?, 4, &cases);
     Ok(())
 }
 
@@ -253,26 +311,51 @@ fn more_edges_may_weigh_more(rt: HostRuntime) -> Result<(), Fail> {
 fn products_are_rounded_up_at_each_member(rt: HostRuntime) -> Result<(), Fail> {
     let types = [row("s", Role::Source, 4, 1), row("t", Role::Sink, 1, 0)];
     let lib = library(&rt, &types, &[link(0, 1, 0)])?;
-    let four = architecture(&[0, 1, 2, 3, 4], &[0, 1, 2, 3]);
-    expect(&rt, &lib, &four, 4, 1, Some(&[0, 1, 2, 3]));
-    let three = architecture(&[0, 1, 2, 4], &[0, 1, 2]);
-    expect(&rt, &lib, &three, 4, 1, Some(&[0, 1, 2]));
+    let cases = [
+        Case {
+            comps: &[0, 1, 2, 3, 4],
+            edges: &[0, 1, 2, 3],
+            weighs: 1,
+            set: Some(&[0, 1, 2, 3]),
+        },
+        Case {
+            comps: &[0, 1, 2, 4],
+            edges: &[0, 1, 2],
+            weighs: 1,
+            set: Some(&[0, 1, 2]),
+        },
+    ];
+    expect(&rt, &lib, 4, &cases);
+    Ok(())
+}
+
+// That a source and the sink that it feeds weigh this much.
+fn expect_pair(
+    rt: &(impl Abort + AllocGlobal),
+    fails: (u32, u32, u32),
+    weighs: u128,
+    set: Option<&'static [u32]>,
+) -> Result<(), Fail> {
+    let lib = pair(rt, fails.0, fails.1, fails.2)?;
+    expect_one(rt, &lib, &architecture(&[0, 1], &[0]), 1, weighs, set);
     Ok(())
 }
 
 #[test]
 fn of_equal_products_the_least_list_is_the_heaviest(rt: HostRuntime) -> Result<(), Fail> {
-    let whole = architecture(&[0, 1], &[0]);
-    let alike = pair(&rt, 500, 500, 500)?;
-    expect(&rt, &alike, &whole, 1, 1_500_000_000_000_000, Some(&[0]));
-    let link_alone = pair(&rt, 0, 500, 0)?;
-    expect(&rt, &link_alone, &whole, 1, 500_000_000_000_000, Some(&[2]));
-    expect(&rt, &pair(&rt, 0, 0, 0)?, &whole, 1, 0, None);
-    Ok(())
+    expect_pair(&rt, (500, 500, 500), 1_500_000_000_000_000, Some(&[0]))?;
+    expect_pair(&rt, (0, 500, 0), 500_000_000_000_000, Some(&[2]))?;
+    expect_pair(
+        &rt,
+        (1_000_000, 0, 0),
+        1_000_000_000_000_000_000,
+        Some(&[0]),
+    )?;
+    expect_pair(&rt, (0, 0, 0), 0, None)
 }
 
 // Two buses that feed each other, of which the generator feeds one and the load is fed by the
-// other.
+// other. Edges 4 and 5 join the buses.
 #[test]
 fn a_circle_is_no_way_around(rt: HostRuntime) -> Result<(), Fail> {
     let types = [
@@ -281,8 +364,13 @@ fn a_circle_is_no_way_around(rt: HostRuntime) -> Result<(), Fail> {
         row("load", Role::Sink, 1, 0),
     ];
     let lib = library(&rt, &types, &[link(0, 1, 0), link(1, 2, 0), link(1, 1, 0)])?;
-    let circle = architecture(&[0, 1, 2, 3], &[0, 3, 4, 5]);
-    expect(&rt, &lib, &circle, 3, 1_200_000_000_000_000, Some(&[0]));
+    let circle = [Case {
+        comps: &[0, 1, 2, 3],
+        edges: &[0, 3, 4, 5],
+        weighs: 1_200_000_000_000_000,
+        set: Some(&[0]),
+    }];
+    expect(&rt, &lib, 3, &circle);
     Ok(())
 }
 
@@ -345,20 +433,26 @@ fn aircraft(rt: &(impl Abort + AllocGlobal)) -> Result<Library, Fail> {
     library(rt, &aircraft_types(), &links)
 }
 
-// The left, right and emergency sides are enough for flight, which is weighed too without the
-// emergency side's last edge.
-#[test]
-fn an_aircraft_needs_its_emergency_side(rt: HostRuntime) -> Result<(), Fail> {
-    let lib = aircraft(&rt)?;
-    let comps = [0, 1, 3, 4, 5, 7, 8, 9, 11, 12, 13, 15, 16, 17, 18];
-    let cheapest = architecture(
-        &comps,
-        &[0, 1, 3, 4, 5, 7, 8, 9, 11, 12, 13, 15, 16, 17, 18],
-    );
-    expect(&rt, &lib, &cheapest, 16, 59_823_000, Some(&[0, 1, 3]));
-    expect(&rt, &lib, &cheapest, 17, 28_900_000_000, Some(&[0, 1]));
-    expect(&rt, &lib, &cheapest, 18, 170_000_000_000_000, Some(&[0]));
-    let two_sides = architecture(&comps, &[0, 1, 3, 4, 5, 7, 8, 9, 11, 12, 13, 16, 17, 18]);
-    expect(&rt, &lib, &two_sides, 16, 28_900_000_000, Some(&[0, 1]));
+// What a load weighs where the left, right and emergency sides stand.
+fn expect_load(
+    rt: &(impl Abort + AllocGlobal),
+    sink: u32,
+    weighs: u128,
+    set: &'static [u32],
+) -> Result<(), Fail> {
+    let case = [Case {
+        comps: &[0, 1, 3, 4, 5, 7, 8, 9, 11, 12, 13, 15, 16, 17, 18],
+        edges: &[0, 1, 3, 4, 5, 7, 8, 9, 11, 12, 13, 15, 16, 17, 18],
+        weighs,
+        set: Some(set),
+    }];
+    expect(rt, &aircraft(rt)?, sink, &case);
     Ok(())
+}
+
+#[test]
+fn an_aircraft_flies_on_three_sides(rt: HostRuntime) -> Result<(), Fail> {
+    expect_load(&rt, 16, 59_823_000, &[0, 1, 3])?;
+    expect_load(&rt, 17, 28_900_000_000, &[0, 1])?;
+    expect_load(&rt, 18, 170_000_000_000_000, &[0])
 }
