@@ -576,7 +576,7 @@ pattern = [
 // 31 + 32 + 1 components, 8 * 32 + 32 * 8 edges, 200 patterns.
 #[test]
 fn faults_come_by_class_then_table_then_place_then_key(rt: HostRuntime) -> Result<(), Fail> {
-    let padding = "#".repeat(rt.alloc())?;
+    let padding = "#".repeat(rt.alloc(), 1_048_576)?;
     let counts = "  {kind = \"count\", type = \"a\"},\n".repeat(rt.alloc(), 200)?;
     let mut text = format!(in rt.alloc(); "{FAULTY}{counts}]\nw = 1\nv = [\n")?;
     let padded = format!(in rt.alloc(); "{text}{padding}")?;
