@@ -176,24 +176,14 @@ fn a_chain_in_the_worse_order_takes_a_pass_a_link(rt: HostRuntime) -> Result<(),
 }
 
 #[test]
-fn twelve_pairs_and_a_cost_row(rt: HostRuntime) -> Result<(), Fail> {
+fn a_cost_row_forces_many_at_once(rt: HostRuntime) -> Result<(), Fail> {
     let problem = sources(&rt, 24, 10)?;
-    let mut cuts = CutList::new(rt.alloc());
+    let cuts = CutList::new(rt.alloc());
     let known = Known {
         problem: &problem,
         cuts: &cuts,
         upto: 0,
         bound: Some(10),
     };
-    expect(&rt, &known, Cube::whole(), "full", &[RowRef::Cost; 24])?;
-    for i in 0..12 {
-        learn(&rt, &problem, &mut cuts, either(&rt, 2 * i, 2 * i + 1))?;
-    }
-    let pairs = Known {
-        problem: &problem,
-        cuts: &cuts,
-        upto: 12,
-        bound: Some(120),
-    };
-    expect(&rt, &pairs, Cube::whole(), "quiet", &[])
+    expect(&rt, &known, Cube::whole(), "full", &[RowRef::Cost; 24])
 }
