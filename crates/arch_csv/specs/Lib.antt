@@ -1,4 +1,0 @@
-pub mod Records
-pub mod ArchitectureOf
-pub mod Text
-pub mod Inner
