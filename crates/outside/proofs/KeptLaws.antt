@@ -5,7 +5,7 @@ use Rattle.std.proofs.lemmas.Slice.Eq.{bytes_eq-Decides}
 use Rattle.outside.specs.declared.counts.Counts.{Counts}
 use Rattle.outside.specs.Faults.{Rose, Stay, ChangesOnly}
 use Rattle.outside.specs.Named.{item_of}
-use Rattle.outside.specs.Told.{Appends}
+use Rattle.outside.specs.Told.{Appends, KeptOrEmpty}
 use Rattle.outside.specs.Inner.Counts.{after_failed_read, after_failed_write}
 use Rattle.outside.specs.Inner.Kept.{Kept, KeptFile, told_of, counts_of_kept, read_faults_of, write_faults_of, call_passes, append_passes, with_counts, with_bytes, with_piece, file_put, after_put, after_change, after_fault, after_read, after_fresh, after_append}
 use Rattle.outside.proofs.CountLaws.{by_cases, NoLess, same_counts, read_raised, write_raised, rose, related_apart, differ, OneWith, only_one, one_or_other}
@@ -51,6 +51,10 @@ emptied-after_fresh (Ok x) s t name go e =
     let there : told_of t name ≡ option_map (λ (f : KeptFile). f.bytes) (option_map (with_bytes []) (item_of name s.files)) =
     ap (λ (w : Kept). told_of w name) (e ∙ cond_true (call_passes s name) _ _ (sym go)) ∙ ap (option_map (λ (f : KeptFile). f.bytes)) (item_of-changed_same name (with_bytes []) s.files) in
     subst T (sym there) (emptied (item_of name s.files))
+
+pub left-after_fresh : {T E : Type 0} (r : Result T E) (s t : Kept) (name : List ℕ) → is_ok r ≡ call_passes s name → t ≡ after_fresh s name → OnErr r (KeptOrEmpty (told_of s name) (told_of t name))
+left-after_fresh (Ok x) s t name go e = tt
+left-after_fresh (Err x) s t name go e = inl (ap (λ (w : Kept). told_of w name) (e ∙ cond_false (call_passes s name) _ _ (sym go)) ∙ told_after_fault after_failed_write s name name)
 
 longer : (o : Option KeptFile) (piece : List ℕ) → Appends (option_map (λ (f : KeptFile). f.bytes) o) (option_map (λ (f : KeptFile). f.bytes) (option_map (with_piece piece) o)) piece
 longer None piece = tt

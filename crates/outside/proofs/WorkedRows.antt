@@ -1,7 +1,8 @@
--- Worked rows: where counts of faults stop, and the greatest place that is read.
-use Rattle.std.proofs.Common.{◌≡◌, refl, arith, lit≤}
+-- Worked rows: where counts of faults stop, the greatest place that is read, and what a failed `fresh` may leave.
+use Rattle.std.proofs.Common.{◌≡◌, ℕ, List, [], Option, Some, None, codes, inl, inr, refl, arith, lit≤}
 use Rattle.outside.specs.declared.shelf.TheConstants.{LAST_PLACE}
 use Rattle.outside.specs.Faults.{Rose}
+use Rattle.outside.specs.Told.{KeptOrEmpty}
 use Rattle.outside.specs.Inner.Counts.{one_more}
 
 last_place : LAST_PLACE ≡ 4294967297
@@ -20,3 +21,13 @@ stood h = omega (arith, h)
 
 stood_high : Rose 18446744073709551614 18446744073709551614 → ⊥
 stood_high h = omega (arith, h)
+
+-- a file after a failed `fresh`: as it was, empty, or told no longer; not cut short
+abbrev left : Option (List ℕ) → Type 0
+left now = KeptOrEmpty (Some (codes "ab")) now
+
+kept : left (Some (codes "ab")) × left (Some []) × left None
+kept = (inl refl, inr refl, inr tt)
+
+cut_short : left (Some (codes "a")) → ⊥
+cut_short h = elim h [ inl e ↦ cc | inr e ↦ cc ]

@@ -3,7 +3,7 @@ ghost use Rattle.std.specs.Prelude.{◌≡◌, ◌≢◌, ℕ, ◌<◌, ◌≤�
 ghost use Rattle.std.specs.Prelude.{map, take, string_bytes, IfSome, IfOk};
 ghost use Rattle.std.specs.Prelude.{OnOk, OnErr, MatchResult};
 ghost use Rattle.outside.specs.Faults.{Rose, NeverFall, Stay, ChangesOnly};
-ghost use Rattle.outside.specs.Told.{Finds, Appends, untold};
+ghost use Rattle.outside.specs.Told.{Finds, Appends, KeptOrEmpty, untold};
 ghost use Rattle.outside.specs.Inner.Counts.{no_faults, counts_after, after_failed_read, after_failed_write, reads_of};
 ghost use Rattle.outside.specs.Inner.Counts.{writes_of};
 
@@ -105,6 +105,7 @@ impl<R: Files> Shelf for DiskShelf<'_, R> {
 
     fn fresh(&mut self, name: &str) -> Result<(), Failed>
         ensures empty { OnOk result (IfSome untold (λ bytes. bytes ≡ [])) }
+        ensures left { OnErr result (KeptOrEmpty untold untold) }
         ensures failed { OnErr result (Rose (writes_of self.old name.now) (writes_of self.new name.now)) }
         ensures told_stays { (other : List ℕ) → other ≢ name.now → untold ≡ untold }
         ensures reads_stay { Stay (reads_of self.old) (reads_of self.new) }

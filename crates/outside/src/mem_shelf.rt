@@ -3,7 +3,7 @@ ghost use Rattle.std.specs.Prelude.{◌≡◌, ℕ, ◌<◌, ◌≤◌, List, []
 ghost use Rattle.std.specs.Prelude.{IfOk, OnOk, OnErr, MatchResult, option_map};
 ghost use Rattle.std.specs.Str.{bytes_eq};
 ghost use Rattle.outside.specs.Faults.{Rose, NeverFall, Stay, ChangesOnly};
-ghost use Rattle.outside.specs.Told.{Finds, Appends, OthersStay};
+ghost use Rattle.outside.specs.Told.{Finds, Appends, KeptOrEmpty, OthersStay};
 ghost use Rattle.outside.specs.Inner.Kept.{new_shelf, told_of, read_faults_of, write_faults_of};
 ghost use Rattle.outside.specs.Inner.Kept.{call_passes, append_passes};
 ghost use Rattle.outside.specs.Inner.Kept.{after_put, after_read, after_fresh, after_append};
@@ -178,6 +178,7 @@ impl Shelf for MemShelf {
 
     fn fresh(&mut self, name: &str) -> Result<(), Failed>
         ensures empty { OnOk result (IfSome (told_of self.new name.now) (λ bytes. bytes ≡ [])) }
+        ensures left { OnErr result (KeptOrEmpty (told_of self.old name.now) (told_of self.new name.now)) }
         ensures failed { OnErr result (Rose (write_faults_of self.old name.now) (write_faults_of self.new name.now)) }
 
         ensures told_stays { OthersStay name.now (told_of self.old) (told_of self.new) }

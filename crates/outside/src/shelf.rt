@@ -3,7 +3,7 @@ ghost use Rattle.std.specs.Prelude.{◌≡◌, ◌≢◌, ℕ, ◌<◌, ◌≤�
 ghost use Rattle.std.specs.Prelude.{take, IfSome, IfOk, OnOk, OnErr};
 ghost use Rattle.std.specs.Prelude.{MatchResult};
 ghost use Rattle.outside.specs.Faults.{Rose, Stay, ChangesOnly};
-ghost use Rattle.outside.specs.Told.{Finds, Appends};
+ghost use Rattle.outside.specs.Told.{Finds, Appends, KeptOrEmpty};
 
 use crate::faults::Failed;
 
@@ -36,9 +36,11 @@ pub trait Shelf {
         ensures reads_alone { ChangesOnly (name.now ∷ []) (read_faults self.old) (read_faults self.new) }
         ensures writes_stay { Stay (write_faults self.old) (write_faults self.new) };
 
-    /// Leaves an empty file under the name, whatever was there.
+    /// Leaves an empty file under the name, whatever was there. A failed call leaves what was there,
+    /// or an empty file.
     fn fresh(&mut self, name: &str) -> Result<(), Failed>
         ensures empty { OnOk result (IfSome (told self.new name.now) (λ bytes. bytes ≡ [])) }
+        ensures left { OnErr result (KeptOrEmpty (told self.old name.now) (told self.new name.now)) }
         ensures failed { OnErr result (Rose (write_faults self.old name.now) (write_faults self.new name.now)) }
 
         ensures told_stays { (other : List ℕ) → other ≢ name.now → told self.new other ≡ told self.old other }

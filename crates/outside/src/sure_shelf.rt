@@ -4,7 +4,7 @@ ghost use Rattle.std.specs.Prelude.{position, unwrap_or, false, None, Some};
 ghost use Rattle.std.specs.Prelude.{Ok, IfSome, IfOk, OnOk, OnErr, MatchResult};
 ghost use Rattle.std.specs.Str.{bytes_eq};
 ghost use Rattle.outside.specs.Faults.{Rose, Stay, ChangesOnly};
-ghost use Rattle.outside.specs.Told.{Finds, Appends, OthersStay};
+ghost use Rattle.outside.specs.Told.{Finds, Appends, KeptOrEmpty, OthersStay};
 ghost use Rattle.outside.specs.Sure.{was_put, sure_put, sure_told, written_to};
 
 use crate::copies::copy_from;
@@ -160,6 +160,7 @@ impl Shelf for SureShelf {
 
     fn fresh(&mut self, name: &str) -> Result<(), Failed>
         ensures empty { OnOk result (IfSome (sure_told self.new name.now) (λ bytes. bytes ≡ [])) }
+        ensures left { OnErr result (KeptOrEmpty (sure_told self.old name.now) (sure_told self.new name.now)) }
         ensures failed { OnErr result (Rose 0 0) }
         ensures told_stays { OthersStay name.now (sure_told self.old) (sure_told self.new) }
         ensures reads_stay { Stay (λ _. 0) (λ _. 0) }

@@ -1,8 +1,11 @@
-use Rattle.outside.proofs.KeptLaws.{told-after_fresh, rose-after_fresh, counts-after_fresh, reads-after_fresh, stay-after_fresh, alone-after_fresh, emptied-after_fresh}
+use Rattle.outside.proofs.KeptLaws.{told-after_fresh, rose-after_fresh, counts-after_fresh, reads-after_fresh, stay-after_fresh, alone-after_fresh, emptied-after_fresh, left-after_fresh}
 use Rattle.outside.proofs.mem_shelf.MemShelfShelf.fresh.Goals as goal
 
 pub returns-clause-empty : goal.returns-clause-empty
 returns-clause-empty c = emptied-after_fresh c.try_fresh.result c.args.self.now c.try_fresh.new.self c.args.name.now c.try_fresh.ensures.answers c.try_fresh.ensures.after
+
+pub returns-clause-left : goal.returns-clause-left
+returns-clause-left c = left-after_fresh c.try_fresh.result c.args.self.now c.try_fresh.new.self c.args.name.now c.try_fresh.ensures.answers c.try_fresh.ensures.after
 
 pub returns-clause-failed : goal.returns-clause-failed
 returns-clause-failed c = rose-after_fresh c.try_fresh.result c.args.self.now c.try_fresh.new.self c.args.name.now c.try_fresh.ensures.answers c.try_fresh.ensures.after
