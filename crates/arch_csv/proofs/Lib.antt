@@ -1,0 +1,11 @@
+pub mod ReadingFacts
+pub mod FaultLemmas
+pub mod ThreeFields
+pub mod PlainNames
+pub mod EdgesDiffer
+pub mod Naming
+pub mod DraftLemmas
+pub mod RecordsRead
+pub mod TextLaws
+pub mod ReadBack
+pub mod ReadFits

@@ -1,0 +1,4 @@
+pub mod Records
+pub mod ArchitectureOf
+pub mod Text
+pub mod Inner
