@@ -23,12 +23,11 @@ use Rattle.rows.specs.Cube.{IsFull, value_at, fixed_at}
 use Rattle.rows.specs.Activity.{is_refuted}
 use Rattle.rows.specs.BaseRows.{member_cost_of, costs_of}
 use Rattle.rows.specs.Known.{variables, known_cuts, has_row, row_at, IsKnown, IsCutBelow}
-use Rattle.rows.specs.Ascent.{Ascent, quotient_at, times_of, left_of, is_worth, with_row, looked_at, ascent_start}
+use Rattle.rows.specs.Ascent.{Ascent, quotient_at, times_of, left_of, is_worth, with_row, looked_at, ascent_start, whole_ascent}
 use Rattle.rows.proofs.CubeLaws.{activity_is_value}
 use Rattle.rows.proofs.SetFacts.{has-put_keeps}
 use Rattle.rows.proofs.WhatIsForced.{has-put_same}
 use Rattle.rows.proofs.TraceLaws.{cut_below}
-use Rattle.row_bounds.specs.Residue.{whole_ascent}
 use Rattle.row_bounds.specs.Inner.Climb.{Follows, IsRising, IsPrepared, base_named, cuts_named, quotient_by}
 use Rattle.row_bounds.proofs.SpendLaws.{fold_append, quotient_same}
 

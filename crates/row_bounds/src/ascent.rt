@@ -7,7 +7,6 @@ ghost use Rattle.rows.specs.Known.{parts_of, known_cuts, IsKnown};
 ghost use Rattle.rows.specs.declared.known.RowRef.TheVariants as names;
 ghost use Rattle.rows.specs.BaseRows.{member_cost_of};
 ghost use Rattle.rows.specs.Ascent as formal;
-ghost use Rattle.row_bounds.specs.Residue.{whole_ascent};
 ghost use Rattle.row_bounds.specs.Inner.Climb.{Follows, IsRising, IsPrepared, base_named, cuts_named};
 
 use crate::spending::{
@@ -199,7 +198,7 @@ pub(crate) fn climb(
     requires { IsKnown (parts_of known.now) }
     ensures rising { IfOk result (λ r. IsRising (parts_of known.now) r.pairs.items r.residue) }
     ensures follows { IfOk result
-        (λ r. Follows r.pairs.items r.residue (whole_ascent (parts_of known.now) cube.now)) }
+        (λ r. Follows r.pairs.items r.residue (formal.whole_ascent (parts_of known.now) cube.now)) }
 {
     let zeros = with_zeros(known, cube);
     let mut rising = begin(alloc, known)?;

@@ -2,8 +2,7 @@
 ghost use Rattle.std.specs.Prelude.{◌≡◌, ℕ, ◌<◌, false, IsTrue, IsSome, IfOk, IfSome, IfNone, slice_index};
 ghost use Rattle.rows.specs.Known.{parts_of, IsKnown};
 ghost use Rattle.rows.specs.Reason.{AllThere, IsReason, is_together};
-ghost use Rattle.rows.specs.Ascent.{is_ascent_refuted};
-ghost use Rattle.row_bounds.specs.Residue.{whole_ascent, residue_of};
+ghost use Rattle.rows.specs.Ascent.{is_ascent_refuted, whole_ascent, residue_of};
 ghost use Rattle.row_bounds.specs.Bounded.{reason_in};
 
 use crate::ascent::climb;

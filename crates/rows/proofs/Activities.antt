@@ -11,7 +11,7 @@ use Rattle.rows.specs.Activity.{best_of, worst_of}
 use Rattle.rows.specs.declared.activity.End.{End}
 use Rattle.rows.specs.declared.activity.End.TheVariants.{Greatest, Least}
 use Rattle.rows.specs.Inner.Ends.{taken_at, adds_at}
-use Rattle.rows.proofs.IntSums.{sized_sum, sized_low, sized_high, sized_from}
+use Rattle.rows.proofs.IntSums.{sized_sum}
 
 sized_max : (n m : ℕ) → n ≤ m → unsigned_abs (best_of None (pos n)) ≤ m
 sized_max n m h = grind arith
@@ -83,33 +83,6 @@ minus_sized (suc n) h = omega arith
 -- how far one number is above another, as the code has it
 pub plain_to : (a : ℤ) → unsigned_abs a ≤ 2 ^ 118 → to_z w128 (of_z w128 a) ≡ a
 plain_to a h = to_z-of_z w128 a (fits_signed_from_abs w128 a (omega (arith, h)))
-
-difference_fits : (a b : ℤ) → unsigned_abs a ≤ 2 ^ 118 → unsigned_abs b ≤ 2 ^ 118 → FitsSigned w128 (a -ℤ b)
-difference_fits a b h k =
-    let alow = sized_low a (2 ^ 118) h in
-    let ahigh = sized_high a (2 ^ 118) h in
-    let blow = sized_low b (2 ^ 118) k in
-    let bhigh = sized_high b (2 ^ 118) k in
-    let size : unsigned_abs (a -ℤ b) ≤ 2 ^ 119 = sized_from (a -ℤ b) (2 ^ 119) (omega (arith, ints)) (omega (arith, ints)) in
-    fits_signed_from_abs w128 (a -ℤ b) (omega (arith, size))
-
-pub room_is : (g l greatest least : ℤ) → unsigned_abs g ≤ 2 ^ 118 → unsigned_abs l ≤ 2 ^ 118 → g ≡ greatest → l ≡ least
-    → to_z w128 (of_z w128 (to_z w128 (of_z w128 g) -ℤ to_z w128 (of_z w128 l))) ≡ greatest -ℤ least
-room_is g l greatest least h k e f =
-    ap (λ z. to_z w128 (of_z w128 (z -ℤ to_z w128 (of_z w128 l)))) (plain_to g h) ∙ ap (λ z. to_z w128 (of_z w128 (g -ℤ z))) (plain_to l k)
-    ∙ to_z-of_z w128 (g -ℤ l) (difference_fits g l h k) ∙ ap (λ z. z -ℤ l) e ∙ ap (λ z. greatest -ℤ z) f
-
--- a number of a row is within that size, and so is the least of a cost row
-pub sized_within : (a : ℤ) → unsigned_abs a ≤ 10 ^ 16 → unsigned_abs a ≤ 2 ^ 118
-sized_within a h = omega (arith, h)
-
-pub bound_small : (u : ℕ) → u < 2 ^ 64 → unsigned_abs (pos 1 -ℤ to_z w128 u) ≤ 2 ^ 118
-bound_small u h =
-    let fits : to_z w128 u ≡ pos u = omega (arith, ints) in
-    rw fits (sized_from (pos 1 -ℤ pos u) (2 ^ 118) (omega (arith, ints)) (omega (arith, ints)))
-
-pub bound_is : (u : ℕ) → u < 2 ^ 64 → (pos 1 -ℤ to_z w128 u) ≡ pos 1 -ℤ pos u
-bound_is u h = omega (arith, ints)
 
 -- a test of two numbers is that of what they are
 pub test_is : (a b x y : ℤ) → a ≡ x → b ≡ y → int_lt a b ≡ int_lt x y

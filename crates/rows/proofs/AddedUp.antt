@@ -1,5 +1,5 @@
 -- Coefficients that are added up in an array, as the loops over a row's terms and over the variables meet them.
-use Rattle.std.proofs.Common.{◌≡◌, ◌≢◌, ℕ, zero, suc, ◌+◌, ◌*◌, ◌^◌, ◌≤◌, ◌<◌, ℤ, pos, negsuc, neg_ℤ, ◌+ℤ◌, ◌-ℤ◌, ◌*ℤ◌, unsigned_abs, Bool, true, false, nat_eq, List, [], ◌∷◌, length, get_or, set, take, replicate, to_z, of_z, FitsSigned, IfSome, refl, sym, ap, subst, ◌∙◌, arith, inl, inr, eq-eqb, if◌then◌else◌}
+use Rattle.std.proofs.Common.{◌≡◌, ◌≢◌, ℕ, zero, suc, ◌+◌, ◌*◌, ◌^◌, ◌≤◌, ◌<◌, ℤ, pos, negsuc, neg_ℤ, ◌+ℤ◌, ◌-ℤ◌, ◌*ℤ◌, unsigned_abs, Bool, true, false, ◌||◌, nat_eq, List, [], ◌∷◌, length, get_or, set, take, replicate, to_z, of_z, FitsSigned, IfSome, refl, sym, ap, subst, ◌∙◌, arith, inl, inr, eq-eqb, if◌then◌else◌}
 use Rattle.std.specs.Int.{w128}
 use Rattle.std.specs.List.{All, AllByRecursion}
 use Rattle.std.proofs.Math.IntN.{+ℤ_assoc, +ℤ_idr, *ℤ-zero}
@@ -10,8 +10,10 @@ use Rattle.std.proofs.lemmas.List.{length-set, get_or-set_same, get_or-set_other
 use Rattle.std.proofs.lemmas.List.Elements.{recursion_from_All, All-from_recursion}
 use Rattle.arch_model.specs.Parts.{LibraryParts}
 use Rattle.arch_model.specs.Library.{IsLibrary}
-use Rattle.arch_model.specs.Member.{member_count}
-use Rattle.arch_model.specs.Set.{has}
+use Rattle.arch_model.specs.Member.{is_in, member_count}
+use Rattle.arch_model.specs.Set.{Set, has, members_below}
+use Rattle.arch_model.specs.declared.limits.TheConstants.{MEMBERS}
+use Rattle.arch_model.proofs.Members.{is_in-members}
 use Rattle.rows.specs.declared.row.Term.{Term}
 use Rattle.rows.specs.declared.known.Pair.{Pair}
 use Rattle.rows.specs.Parts.{RowParts, CutParts, KnownParts}
@@ -25,6 +27,8 @@ use Rattle.rows.proofs.IntSums.{int_sum_by-more, sized_sum}
 use Rattle.rows.proofs.Combinations.{adds_fit, adds_is, times_add, pair_coef, blank_pair, of_there}
 use Rattle.rows.proofs.Costs.{unlike, member_cost_small}
 use Rattle.rows.proofs.ForcedTurns.{cost_coef_at}
+use Rattle.rows.proofs.SetFacts.{none_of}
+use Rattle.rows.proofs.ClosingLoops.{Climbs, climbs_members, low_members, not_above}
 use Rattle.rows.proofs.WhatIsForced.{After, Rising, rising_from, coef_head, coef_tail}
 
 -- after some of a row's terms
@@ -110,6 +114,98 @@ module _ (n i times : ℕ) (f : ℕ → ℤ) (before sums : List ℤ) (s a : ℤ
 -- at their end
 pub below_all : (n i times : ℕ) (f : ℕ → ℤ) (before after : List ℤ) (terms : List Term) → AddedBelow n i times f before after → n ≤ i → ((v : ℕ) → v < n → coef_at terms v ≡ f v) → AreAdded n times terms before after
 below_all n i times f before after terms h far same v short = h.done v short (omega arith) ∙ ap (λ z. get_or before v (pos 0) +ℤ (pos times *ℤ z)) (sym (same v short))
+
+-- over the members of a set, ascending, where f is 0 at all other variables
+pub record AddedMembers (n times : ℕ) (f : ℕ → ℤ) (rest : List ℕ) (before after : List ℤ) : Type 0 where
+  pub long : length after ≡ length before
+  pub low : AllByRecursion (λ y. y < MEMBERS) rest
+  pub climbs : Climbs rest
+  pub to_come : (v : ℕ) → v < n → is_in rest v ≡ true → get_or after v (pos 0) ≡ get_or before v (pos 0)
+  pub done : (v : ℕ) → v < n → is_in rest v ≡ false → get_or after v (pos 0) ≡ get_or before v (pos 0) +ℤ (pos times *ℤ f v)
+
+nothing_added : (times : ℕ) (a g : ℤ) → a ≡ pos 0 → g ≡ g +ℤ (pos times *ℤ a)
+nothing_added times a g none = sym (ap (λ z. g +ℤ (pos times *ℤ z)) none ∙ ap (λ z. g +ℤ z) (*ℤ-zero (pos times)) ∙ +ℤ_idr g)
+
+pub members_start : (n times : ℕ) (s : Set) (f : ℕ → ℤ) (rest : List ℕ) (before : List ℤ) → n ≤ MEMBERS → ((v : ℕ) → has s v ≡ false → f v ≡ pos 0) → rest ≡ members_below s MEMBERS → AddedMembers n times f rest before before
+members_start n times s f rest before few none all =
+    let P : List ℕ → Type 0 = λ l. AddedMembers n times f l before before in
+    subst P (sym all) (record {
+      long = refl;
+      low = low_members s MEMBERS;
+      climbs = climbs_members s MEMBERS;
+      to_come = λ v short there. refl;
+      done = λ v short out.
+          let near : v < MEMBERS = omega arith in
+          nothing_added times (f v) (get_or before v (pos 0)) (none v (none_of (has s v) (λ on. sym out ∙ is_in-members s MEMBERS v on near)));
+    })
+
+module _ (n times : ℕ) (f : ℕ → ℤ) (w : ℕ) (all rest : List ℕ) (before after : List ℤ) (so_far : AddedMembers n times f all before after) (step : all ≡ w ∷ rest) where
+  turn : AddedMembers n times f (w ∷ rest) before after
+  turn = let P : List ℕ → Type 0 = λ l. AddedMembers n times f l before after in subst P step so_far
+
+  head : is_in (w ∷ rest) w ≡ true
+  head = ap (λ b. b || is_in rest w) (eq-eqb w w refl)
+
+  later : (b c : Bool) → c ≡ true → (b || c) ≡ true
+  later true c h = refl
+  later false c h = h
+
+  pub member_small : w < MEMBERS
+  member_small = turn.low.0
+
+  pub members_past : n ≤ w → AddedMembers n times f rest before after
+  members_past far = record {
+    long = turn.long;
+    low = turn.low.1;
+    climbs = turn.climbs.1;
+    to_come = λ v short there. turn.to_come v short (later (nat_eq w v) (is_in rest v) there);
+    done = λ v short out.
+        let ne : w ≡ v → ⊥ = λ e. absurd (omega arith) in
+        turn.done v short (ap (λ b. b || is_in rest v) (unlike w v ne) ∙ out);
+  }
+
+  module _ (s a : ℤ) (few : times ≤ 10 ^ 12) (room : AreWithin n (63 * 10 ^ 28) before) (below : w < n) (is : s ≡ pos times *ℤ a) (same : a ≡ f w) (small : unsigned_abs (f w) ≤ 10 ^ 16) where
+    member_was : get_or after w (pos 0) ≡ get_or before w (pos 0)
+    member_was = turn.to_come w below head
+
+    member_within : unsigned_abs (get_or after w (pos 0)) ≤ 63 * 10 ^ 28
+    member_within = rw member_was (room w below)
+
+    member_is : s ≡ pos times *ℤ f w
+    member_is = is ∙ ap (λ z. pos times *ℤ z) same
+
+    member_sized : unsigned_abs s ≤ 10 ^ 28
+    member_sized = rw member_is (times_small times (f w) few small)
+
+    pub member_fits : FitsSigned w128 (to_z w128 (of_z w128 (get_or after w (pos 0))) +ℤ to_z w128 (of_z w128 s))
+    member_fits = entry_fits (get_or after w (pos 0)) s member_within member_sized
+
+    member_now : entry (get_or after w (pos 0)) s ≡ get_or before w (pos 0) +ℤ (pos times *ℤ f w)
+    member_now = entry_is (get_or after w (pos 0)) s member_within member_sized ∙ ap (λ z. z +ℤ s) member_was ∙ ap (λ z. get_or before w (pos 0) +ℤ z) member_is
+
+    pub members_more : w < length after → AddedMembers n times f rest before (set after w (entry (get_or after w (pos 0)) s))
+    members_more inside = record {
+      long = length-set after w (entry (get_or after w (pos 0)) s) ∙ turn.long;
+      low = turn.low.1;
+      climbs = turn.climbs.1;
+      to_come = λ v short there.
+          let ne : v ≢ w = λ e. absurd (let off : is_in rest v ≡ false = ap (is_in rest) e ∙ not_above w w rest (omega arith) turn.climbs.0 in let g : true ≡ false = sym there ∙ off in cc) in
+          get_or-set_other after w v (entry (get_or after w (pos 0)) s) (pos 0) ne ∙ turn.to_come v short (later (nat_eq w v) (is_in rest v) there);
+      done = λ v short out. elim (eqb_tells w v) [
+        | inl hit ↦
+            ap (λ j. get_or (set after w (entry (get_or after w (pos 0)) s)) j (pos 0)) (sym hit.1)
+            ∙ get_or-set_same after w (entry (get_or after w (pos 0)) s) (pos 0) inside ∙ member_now
+            ∙ ap (λ j. get_or before j (pos 0) +ℤ (pos times *ℤ f j)) hit.1
+        | inr miss ↦
+            let ne : v ≢ w = λ e. miss.1 (sym e) in
+            get_or-set_other after w v (entry (get_or after w (pos 0)) s) (pos 0) ne
+            ∙ turn.done v short (ap (λ b. b || is_in rest v) (unlike w v miss.1) ∙ out)
+      ];
+    }
+
+pub members_all : (n times : ℕ) (f : ℕ → ℤ) (rest : List ℕ) (before after : List ℤ) (terms : List Term) → AddedMembers n times f rest before after → rest ≡ [] → ((v : ℕ) → v < n → coef_at terms v ≡ f v) → AreAdded n times terms before after
+members_all n times f rest before after terms h none same v short =
+    h.done v short (ap (λ l. is_in l v) none) ∙ ap (λ z. get_or before v (pos 0) +ℤ (pos times *ℤ z)) (sym (same v short))
 
 -- what was added is small
 pub stays_small : (n times : ℕ) (terms : List Term) (before after : List ℤ) → times ≤ 10 ^ 12 → AreAdded n times terms before after → ((v : ℕ) → v < n → unsigned_abs (coef_at terms v) ≤ 10 ^ 16)

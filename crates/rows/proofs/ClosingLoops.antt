@@ -150,7 +150,7 @@ pub low_members : (s : Set) (n : ℕ) → AllByRecursion (λ y. y < n) (members_
 unfolding members_below
 low_members s n = low_chosen (has s) 0 n n (omega arith)
 
-not_above : (j v : ℕ) (xs : List ℕ) → j ≤ v → AllByRecursion (λ y. v < y) xs → is_in xs j ≡ false
+pub not_above : (j v : ℕ) (xs : List ℕ) → j ≤ v → AllByRecursion (λ y. v < y) xs → is_in xs j ≡ false
 not_above j v [] h above = refl
 not_above j v (x ∷ xs) h above =
     let ne : x ≡ j → ⊥ = λ e. absurd (omega (arith, above.0, e, h)) in
@@ -219,9 +219,6 @@ module _ (cut : CutParts) (start cube : CubeParts) (v : ℕ) (all rest : List �
 
   pub cut_loop_free : is_free cube v ≡ true
   cut_loop_free = and_right (has cut.plus v || has cut.minus v) (not (has cube.fixed v)) on_cut
-
-  pub cut_loop_small : v < MEMBERS
-  cut_loop_small = turn.low.0
 
   pub cut_loop_hit : room ≡ pos 0 → (next : CubeParts) (after : ℕ) (b : Bool) → b ≡ has cut.plus v → next ≡ fixed_at cube v b → after ≡ count + 1 → CutTurn cut start next rest after room
   cut_loop_hit tight next after b is fix more =

@@ -2,7 +2,7 @@
 use Rattle.std.proofs.Common.{◌≡◌, ℕ, ◌+◌, ◌<◌, ℤ, pos, negsuc, ◌+ℤ◌, ◌-ℤ◌, Bool, true, false, cond, ◌&&◌, ◌||◌, not, List, [], ◌∷◌, filter, length, Option, Some, None, refl, sym, ap, ◌∙◌, arith, if◌then◌else◌}
 use Rattle.std.specs.List.{range_with_len}
 use Rattle.std.proofs.lemmas.Int.{ints}
-use Rattle.arch_model.specs.Set.{Set, has, len, union, intersection, minus, members_below}
+use Rattle.arch_model.specs.Set.{Set, has, len, union, minus, members_below}
 use Rattle.arch_model.specs.declared.limits.TheConstants.{MEMBERS}
 use Rattle.arch_model.proofs.SetLaws.{has-union, has-intersection, has-minus}
 use Rattle.arch_model.proofs.Counting.{len-members}

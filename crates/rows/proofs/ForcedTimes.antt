@@ -106,9 +106,6 @@ module _ (row : RowParts) (cube : CubeParts) (v : ℕ) (b : Bool) (rising : Risi
   pub row_stands : is_refuted row (fixed_at cube v b) ≡ false
   row_stands = ap (λ z. int_lt z row.least) activity_stays ∙ forced.open_yet
 
-  pub first_is_free : is_free cube v ≡ true
-  first_is_free = forced.is_free
-
   -- and it forces the others as before
   module _ (small : v < MEMBERS) where
     next_cube : IsCube (fixed_at cube v b)

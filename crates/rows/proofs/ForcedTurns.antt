@@ -117,6 +117,9 @@ cut_none_by true m h = absurd (let e : true ≡ false = h in cc)
 cut_none_by false true h = absurd (let e : true ≡ false = h in cc)
 cut_none_by false false h = refl
 
+pub cut_coef_none : (cut : CutParts) (v : ℕ) → has (union cut.plus cut.minus) v ≡ false → cut_coef cut v ≡ pos 0
+cut_coef_none cut v out = cut_none_by (has cut.plus v) (has cut.minus v) (sym (has-union cut.plus cut.minus v) ∙ out)
+
 cut_coef_by : (b : Bool) (a : ℤ) → (b ≡ false → a ≡ pos 0) → (if b then a else pos 0) ≡ a
 cut_coef_by true a h = refl
 cut_coef_by false a h = sym (h refl)
@@ -125,7 +128,7 @@ pub cut_coef_at : (cut : CutParts) (v : ℕ) → v < MEMBERS → coef_at (row_of
 unfolding members_below
 cut_coef_at cut v short =
     coef_chosen (has (union cut.plus cut.minus)) (cut_coef cut) v 0 MEMBERS (omega arith) (omega arith)
-    ∙ cut_coef_by (has (union cut.plus cut.minus) v) (cut_coef cut v) (λ out. cut_none_by (has cut.plus v) (has cut.minus v) (sym (has-union cut.plus cut.minus v) ∙ out))
+    ∙ cut_coef_by (has (union cut.plus cut.minus) v) (cut_coef cut v) (cut_coef_none cut v)
 
 pub cut_rising : (cut : CutParts) → Rising (row_of_cut cut).terms
 unfolding members_below

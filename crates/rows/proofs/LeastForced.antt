@@ -9,8 +9,8 @@ use Rattle.rows.specs.declared.row.Term.{Term}
 use Rattle.rows.specs.Parts.{RowParts, CubeParts}
 use Rattle.rows.specs.Row.{coef_at}
 use Rattle.rows.specs.Cube.{IsCube, is_free, fixed_at}
-use Rattle.rows.specs.Activity.{is_refuted, Forces, forces, ForcesNothing, least_forced, IsLeastForced}
-use Rattle.rows.specs.Inner.Room.{room_of, number_of}
+use Rattle.rows.specs.Activity.{is_refuted, Forces, forces, ForcesNothing, least_forced, number_of, IsLeastForced}
+use Rattle.rows.specs.Inner.Room.{room_of}
 use Rattle.rows.proofs.WhatIsForced.{Rising, rising_from, Apart, apart_after, apart_is_idle, forces_one, forces_zero, forces_any, room_is_some}
 
 -- what a search among the terms' variables passes over isn't forced

@@ -1,5 +1,5 @@
 -- When all rows of a list are quiet in a cube.
-use Rattle.std.proofs.Common.{◌≡◌, ℕ, ◌+◌, ◌<◌, ◌≤◌, ℤ, pos, int_lt, Bool, true, false, not, ◌&&◌, ◌↔◌, List, take, length, get_or, slice_get, Option, Some, None, option_map, is_none, is_some, IfSome, refl, sym, ap, subst, ◌∙◌, IsTrue}
+use Rattle.std.proofs.Common.{◌≡◌, ℕ, ◌+◌, ◌<◌, ◌≤◌, Bool, true, false, not, ◌↔◌, List, take, length, get_or, slice_get, Option, Some, None, is_none, IfSome, refl, sym, ap, subst, ◌∙◌, IsTrue}
 use Rattle.std.specs.List.{list_all, All}
 use Rattle.std.proofs.lemmas.Option.{slice_get-get_or}
 use Rattle.std.proofs.lemmas.List.{take_all}
@@ -7,15 +7,12 @@ use Rattle.std.proofs.lemmas.List.Sums.{AllPass-from_list_all, list_all-from_All
 use Rattle.std.proofs.lemmas.List.Elements.{All-weaker}
 use Rattle.std.proofs.lemmas.List.Folds.{list_all_more, list_all_at}
 use Rattle.arch_model.proofs.Members.{and_left, and_right, and_both}
-use Rattle.arch_model.specs.declared.sets.VarId.{VarId}
 use Rattle.rows.specs.declared.known.RowRef.{RowRef}
 use Rattle.rows.specs.Parts.{RowParts, CubeParts, KnownParts}
-use Rattle.rows.specs.Inner.Room.{room_of, number_of}
 use Rattle.rows.specs.Activity.{is_refuted, least_forced, IsQuietAt}
 use Rattle.rows.specs.Reason.{empty_row}
 use Rattle.rows.specs.Known.{row_at, known_rows}
 use Rattle.rows.specs.Inner.Quiet.{is_quiet_at}
-use Rattle.rows.proofs.WhatIsForced.{refuted_without_room}
 use Rattle.rows.proofs.LeastForced.{nothing_to, nothing_from}
 
 none_is : {X : Type 0} (o : Option X) → is_none o ≡ true → o ≡ None
@@ -34,21 +31,6 @@ tested cube row h = record {
 
 passed : (cube : CubeParts) (row : RowParts) → IsQuietAt cube row → is_quiet_at cube row ≡ true
 passed cube row h = and_both (not (is_refuted row cube)) (is_none (least_forced row cube)) (ap not h.open_yet) (ap is_none (nothing_from row cube h.still))
-
--- a row without room isn't quiet, and one with room is where it forces nothing
-pub loud_without_room : (row : RowParts) (cube : CubeParts) (room : ℤ) → room ≡ room_of row cube → int_lt room (pos 0) ≡ true → false ≡ is_quiet_at cube row
-loud_without_room row cube room e h = sym (ap (λ b. not b && is_none (least_forced row cube)) (refuted_without_room row cube room e h))
-
-none_mapped : (o : Option (VarId × Bool)) → is_none o ≡ is_none (option_map number_of o)
-none_mapped (Some p) = refl
-none_mapped None = refl
-
-none_told : (b : Bool) (o : Option (VarId × Bool)) → is_some o ≡ not b → b ≡ is_none o
-none_told true o h = sym (ap not h)
-none_told false o h = sym (ap not h)
-
-pub quiet_with_room : (row : RowParts) (cube : CubeParts) (o : Option (VarId × Bool)) (b : Bool) → is_refuted row cube ≡ false → option_map number_of o ≡ least_forced row cube → is_some o ≡ not b → b ≡ is_quiet_at cube row
-quiet_with_room row cube o b stands first told = none_told b o told ∙ none_mapped o ∙ ap is_none first ∙ sym (ap (λ b. not b && is_none (least_forced row cube)) stands)
 
 -- the test of all rows is exact
 pub all_tested : (cube : CubeParts) (rows : List RowParts) → IsTrue (list_all (is_quiet_at cube) rows) ↔ All (IsQuietAt cube) rows

@@ -33,7 +33,7 @@ apart_left s t c lacks apart v h = elim (or_cases (has s v) (nat_eq c v) (sym (h
   | inr new ↦ let same : c ≡ v = eqb-true c v new in ap (has t) (sym same) ∙ lacks
 ]
 
-none_of : (b : Bool) → (b ≡ true → false ≡ true) → b ≡ false
+pub none_of : (b : Bool) → (b ≡ true → false ≡ true) → b ≡ false
 none_of true f = sym (f refl)
 none_of false f = refl
 

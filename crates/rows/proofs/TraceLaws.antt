@@ -34,12 +34,6 @@ use Rattle.rows.proofs.ClosingLoops.{low_chosen}
 at_place : (P : RowParts → Type 0) (rows : List RowParts) (i : ℕ) (row : RowParts) → All P rows → slice_get rows i ≡ Some row → P row
 at_place P rows i row all at = subst P (get_or_from_slice_get rows i row row at) (all i row (slice_get_within rows i row at))
 
-of_map : {X : Type 0} (P : RowParts → Type 0) (f : X → RowParts) (o : Option X) (row : RowParts) → ((x : X) → o ≡ Some x → P (f x)) → option_map f o ≡ Some row → P row
-of_map P f (Some x) row each is = let same : f x ≡ row = same_row (f x) row is in subst P same (each x refl) where
-  same_row : (a b : RowParts) → Some a ≡ Some b → a ≡ b
-  same_row a b e = cc
-of_map P f None row each is = absurd (let e : None ≡ Some row = is in cc)
-
 at_cut : (P : RowParts → Type 0) (cuts : List CutParts) (j : ℕ) (row : RowParts) → AllByRecursion P (map row_of_cut cuts) → option_map row_of_cut (slice_get cuts j) ≡ Some row → P row
 at_cut P [] j row all is = absurd (let e : None ≡ Some row = is in cc)
 at_cut P (cut ∷ cuts) zero row all is = let same : row_of_cut cut ≡ row = same_row (row_of_cut cut) row is in subst P same all.0 where

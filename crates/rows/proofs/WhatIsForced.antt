@@ -324,9 +324,6 @@ rising_chosen q coef a (suc n) =
     rw (chosen_cons q coef (q a) a (filter q (range_with_len (a + 1) n))) (rising_one (q a) (term a (coef a)) (chosen_terms q coef (a + 1) n) (after_chosen q coef a (a + 1) n (omega arith)) (rising_chosen q coef (a + 1) n))
 
 -- their coefficients: those of the chosen numbers, and 0 at all others
-coef_before_chosen : (q : ℕ → Bool) (coef : ℕ → ℤ) (v a n : ℕ) → v < a → coef_at (chosen_terms q coef a n) v ≡ pos 0
-coef_before_chosen q coef v a n h = coef_after (chosen_terms q coef a n) v (after_chosen q coef v a n h)
-
 coef_cond_here : (b : Bool) (t : Term) (terms : List Term) (v : ℕ) → t.var.0 ≡ v → After v terms → coef_at (cond b (t ∷ terms) terms) v ≡ (if b then t.coef else pos 0)
 coef_cond_here true t terms v e h = coef_head t terms v e h
 coef_cond_here false t terms v e h = coef_after terms v h
@@ -393,7 +390,7 @@ none_at_zero false r h = let e : int_lt r (pos 0) ≡ false = grind (arith, ints
 pub idle_at_zero : (row : RowParts) (cube : CubeParts) (v : ℕ) → Rising row.terms → IsCube cube → is_refuted row cube ≡ false → coef_at row.terms v ≡ pos 0 → forces_any row cube v ≡ false
 idle_at_zero row cube v h k open_yet coef = sym (tells row cube v (pos 0) None h k open_yet coef (none_at_zero (has cube.fixed v) (room_of row cube) (room_is_some row cube open_yet))).0
 
--- a refuted row forces nothing, and one with room stands
+-- a refuted row forces nothing
 find_none : (p : ℕ → Bool) → ((v : ℕ) → p v ≡ false) → (vs : List ℕ) → find p vs ≡ None
 find_none p none [] = refl
 find_none p none (v ∷ vs) = ap (λ b. cond b (Some v) (find p vs)) (none v) ∙ find_none p none vs
@@ -406,14 +403,8 @@ refuted_none row cube h =
 refuted_from : (g l : ℤ) → int_lt (g -ℤ l) (pos 0) ≡ true → int_lt g l ≡ true
 refuted_from g l h = let e : (g -ℤ l) <ℤ pos 0 = grind (arith, ints) in let f : g <ℤ l = omega (arith, ints) in grind (arith, ints)
 
-stands_from : (g l : ℤ) → int_lt (g -ℤ l) (pos 0) ≡ false → int_lt g l ≡ false
-stands_from g l h = let e : pos 0 ≤ℤ (g -ℤ l) = grind (arith, ints) in let f : l ≤ℤ g = omega (arith, ints) in grind (arith, ints)
-
-pub refuted_without_room : (row : RowParts) (cube : CubeParts) (room : ℤ) → room ≡ room_of row cube → int_lt room (pos 0) ≡ true → is_refuted row cube ≡ true
+refuted_without_room : (row : RowParts) (cube : CubeParts) (room : ℤ) → room ≡ room_of row cube → int_lt room (pos 0) ≡ true → is_refuted row cube ≡ true
 refuted_without_room row cube room e h = refuted_from (greatest_activity row cube) row.least (sym (ap (λ z. int_lt z (pos 0)) e) ∙ h)
 
 pub roomless : (row : RowParts) (cube : CubeParts) (room : ℤ) → room ≡ room_of row cube → int_lt room (pos 0) ≡ true → None ≡ least_forced row cube
 roomless row cube room e h = refuted_none row cube (refuted_without_room row cube room e h)
-
-pub stands_with_room : (row : RowParts) (cube : CubeParts) (room : ℤ) → room ≡ room_of row cube → int_lt room (pos 0) ≡ false → is_refuted row cube ≡ false
-stands_with_room row cube room e h = stands_from (greatest_activity row cube) row.least (sym (ap (λ z. int_lt z (pos 0)) e) ∙ h)

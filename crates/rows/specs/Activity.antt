@@ -3,6 +3,7 @@ use Rattle.std.specs.Prelude.{◌≡◌, ℕ, ◌≤◌, ℤ, pos, ◌<ℤ◌, i
 use Rattle.std.specs.Int.{int_max, int_min}
 use Rattle.std.specs.Option.{option_map}
 use Rattle.std.specs.List.{find}
+use Rattle.arch_model.specs.declared.sets.VarId.{VarId}
 use Rattle.rows.specs.Parts.{RowParts, CubeParts}
 use Rattle.rows.specs.Row.{int_sum_by}
 use Rattle.rows.specs.Cube.{value_at, is_free, fixed_at}
@@ -59,6 +60,10 @@ ForcesNothing row cube = (v : ℕ) (b : Bool) → Forces row cube v b → ⊥
 abbrev pub least_forced : RowParts → CubeParts → Option (ℕ × Bool)
 least_forced row cube =
     option_map (λ v. (v, forces row cube v true)) (find (λ v. if forces row cube v true then true else forces row cube v false) (map (λ t. t.var.0) row.terms))
+
+-- a forced variable, by its number
+abbrev pub number_of : VarId × Bool → ℕ × Bool
+number_of p = (p.0.0, p.1)
 
 -- v is the least variable that a row forces in a cube, and b its value
 pub record IsLeastForced (row : RowParts) (cube : CubeParts) (v : ℕ) (b : Bool) : Type 0 where

@@ -60,9 +60,17 @@ named_rows known =
 abbrev pub ascent_start : KnownParts → Ascent
 ascent_start known = record { pairs = record { row = Cost; times = 1 } ∷ []; residue = member_cost_of known.problem.library }
 
--- the ascent: from there, the rows looked at in turn; none where there is no bound
+-- from there, the rows looked at in turn, whether there is a bound or not
+abbrev pub whole_ascent : KnownParts → CubeParts → Ascent
+whole_ascent known cube = fold (looked_at cube) (ascent_start known) (named_rows known)
+
+-- what the ascent leaves of a variable's cost, in cost units
+abbrev pub residue_of : KnownParts → CubeParts → ℕ → ℕ
+residue_of known cube = (whole_ascent known cube).residue
+
+-- the ascent: its pairs; none where there is no bound
 abbrev pub ascent_of : KnownParts → CubeParts → Option (List Pair)
-ascent_of known cube = option_map (λ u. (fold (looked_at cube) (ascent_start known) (named_rows known)).pairs) known.bound
+ascent_of known cube = option_map (λ u. (whole_ascent known cube).pairs) known.bound
 
 -- whether the ascent is refuted: its combination is; not where there is none
 abbrev pub is_ascent_refuted : KnownParts → CubeParts → Bool

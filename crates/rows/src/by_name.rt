@@ -2,10 +2,10 @@
 ghost use Rattle.std.specs.Prelude.{◌≡◌, ◌≤◌, ◌<◌, ◌^◌, Some, false, length, slice_get};
 ghost use Rattle.std.specs.Prelude.{IfSome, IsTrue, option_map, unsigned_abs};
 ghost use Rattle.rows.specs.Row.{Ascends, IsRowBelow};
-ghost use Rattle.rows.specs.Activity.{is_refuted, least_forced, IsQuietAt};
+ghost use Rattle.rows.specs.Activity.{is_refuted, least_forced, number_of, IsQuietAt};
 ghost use Rattle.rows.specs.Known.{parts_of, has_row, row_at};
 ghost use Rattle.rows.specs.Inner.Ends.{activity_at};
-ghost use Rattle.rows.specs.Inner.Room.{room_of, after_times, number_of};
+ghost use Rattle.rows.specs.Inner.Room.{room_of, after_times};
 
 use crate::activity::{End, activity_of_cost, activity_of_cut, activity_of_row};
 use crate::closing::{fix_by_cost, fix_by_cut, fix_by_row};

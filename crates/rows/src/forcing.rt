@@ -1,8 +1,8 @@
 // Which variable a row forces first, from its room.
 ghost use Rattle.std.specs.Prelude.{◌≡◌, false, option_map};
 ghost use Rattle.rows.specs.Row.{IsSized, row_of_cut};
-ghost use Rattle.rows.specs.Activity.{is_refuted, least_forced};
-ghost use Rattle.rows.specs.Inner.Room.{forced_value, room_of, number_of};
+ghost use Rattle.rows.specs.Activity.{is_refuted, least_forced, number_of};
+ghost use Rattle.rows.specs.Inner.Room.{forced_value, room_of};
 ghost use Rattle.rows.specs.BaseRows.{cost_row_of};
 
 use crate::cost::{member_cost, variable_count};
@@ -54,13 +54,8 @@ pub(crate) fn forced_by_cut(cut: &CutRow, cube: &Cube, room: i128) -> Option<(Va
         return None;
     }
     let free = cut.plus().union(&cut.minus()).minus(&fixed);
-    match free.next_from(0) {
-        Some(k) => {
-            let v = VarId(k as u32);
-            Some((v, cut.plus().has(v)))
-        }
-        None => None,
-    }
+    let v = VarId(free.next_from(0)? as u32);
+    Some((v, cut.plus().has(v)))
 }
 
 // The same for the cost row of a bound.

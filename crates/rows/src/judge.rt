@@ -3,8 +3,7 @@
 ghost use Rattle.std.specs.Prelude.{◌≡◌, ℕ, ◌≤◌, ◌^◌, ◌↔◌, Some, IsTrue, IfSome};
 ghost use Rattle.std.specs.Prelude.{IfNone, option_map, replicate, unsigned_abs};
 ghost use Rattle.rows.specs.Activity.{greatest_activity, is_refuted, IsRefuted, is_unmet, IsUnmet, least_forced};
-ghost use Rattle.rows.specs.Activity.{IsLeastForced, ForcesNothing, IsQuietAt};
-ghost use Rattle.rows.specs.Inner.Room.{number_of};
+ghost use Rattle.rows.specs.Activity.{number_of, IsLeastForced, ForcesNothing, IsQuietAt};
 ghost use Rattle.rows.specs.Known.{parts_of, has_row, row_at};
 ghost use Rattle.rows.specs.Trace.{cube_after};
 

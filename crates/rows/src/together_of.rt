@@ -51,8 +51,10 @@ fn add_cut(sums: &mut [i128; MEMBERS], n: u32, cut: &CutRow, times: u64)
     ensures value { AreAdded n times (row_of_cut cut.now).terms sums.old sums.new }
     ensures small { (m : ℕ) → AreWithin n m sums.old → AreWithin n (m + 10 ^ 28) sums.new }
 {
-    for i in 0..n {
-        sums[i as usize] += scaled(times, cut.coef(VarId(i)));
+    for v in cut.plus().union(&cut.minus()).members() {
+        if v.0 < n {
+            sums[v.0 as usize] += scaled(times, cut.coef(v));
+        }
     }
 }
 

@@ -1,9 +1,9 @@
-use Rattle.std.proofs.Common.{◌≡◌, ◌∙◌, FitsSigned, rules, Option, Some, None, IfSome, IfNone, option_map}
+use Rattle.std.proofs.Common.{◌≡◌, ◌∙◌, FitsSigned, rules, None, IfSome, IfNone, option_map}
 use Rattle.std.specs.Int.{w128}
 use Rattle.std.proofs.lemmas.Int.{to_z-of_z}
-use Rattle.rows.specs.Activity.{least_forced, IsLeastForced, ForcesNothing}
+use Rattle.rows.specs.Activity.{least_forced, number_of, IsLeastForced, ForcesNothing}
 use Rattle.rows.specs.Known.{parts_of, row_at}
-use Rattle.rows.specs.Inner.Room.{room_of, number_of}
+use Rattle.rows.specs.Inner.Room.{room_of}
 use Rattle.rows.specs.Row.{Ascends}
 use Rattle.rows.proofs.KnownRows.{if_some, if_both}
 use Rattle.rows.proofs.LeastForced.{told_least, told_nothing}
