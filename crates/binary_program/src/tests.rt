@@ -223,7 +223,7 @@ fn each_kind_of_pattern_has_its_rows(rt: HostRuntime) -> Result<(), Fail> {
     Ok(())
 }
 
-// Requirements come before patterns, and patterns in the order of the library.
+// Requirements come before patterns, each in the order of the library.
 #[test]
 fn requirements_and_patterns_stand_in_order(rt: HostRuntime) -> Result<(), Fail> {
     let patterns = [
@@ -234,7 +234,15 @@ fn requirements_and_patterns_stand_in_order(rt: HostRuntime) -> Result<(), Fail>
         },
     ];
     let expected = ["+1*3 >= 1", "+3*0 -5*3 >= 0", "-1*6 >= 0"];
-    expect_rows(&rt, two_ways(&rt, &patterns, &[CompId(3)])?, 8, &expected)
+    expect_rows(&rt, two_ways(&rt, &patterns, &[CompId(3)])?, 8, &expected)?;
+    let types = [
+        row("s", Role::Source, 1, 1, 1, 0),
+        row("t", Role::Sink, 2, 0, 0, 1),
+    ];
+    let sinks = [CompId(2), CompId(1), CompId(2)];
+    let lib = library(&rt, &types, &[], &[Pattern::TotalSupply], &sinks)?;
+    let expected = ["+1*2 >= 1", "+1*1 >= 1", "+1*2 >= 1", "+1*0 -1*1 -1*2 >= 0"];
+    expect_rows(&rt, lib, 0, &expected)
 }
 
 #[test]

@@ -1,7 +1,7 @@
 -- The rows of a document without a fault make a library.
 use Rattle.std.proofs.Common.{◌≡◌, ◌≢◌, codes, ℕ, ◌+◌, ◌-◌, ◌^◌, ◌<◌, ◌≤◌, Bool, true, false, cond, nat_lt, List, [], ◌∷◌, ◌++◌, map, take, length, get_or, Option, Some, None, IfSome, refl, sym, ap, subst, ◌∙◌, arith}
-use Rattle.std.specs.Option.{option_map_or}
-use Rattle.std.specs.List.{All, AllPairs, AllByRecursion, list_any, filter_map, flat_map, enumerate_from, range_with_len, count_by}
+use Rattle.std.specs.Option.{option_map_or, IsSomeAnd}
+use Rattle.std.specs.List.{slice_get, All, AllPairs, AllByRecursion, list_any, filter_map, flat_map, enumerate_from, range_with_len, count_by}
 use Rattle.std.specs.Str.{bytes_eq}
 use Rattle.std.specs.Cmp.Lexicographic.{bytes_decides}
 use Rattle.std.proofs.lemmas.List.{get_or-map, get_or-take, length-take-le, length-map, length-append}
@@ -12,6 +12,7 @@ use Rattle.toml.specs.declared.value.Value.{Value}
 use Rattle.arch_model.specs.declared.limits.TheConstants.{COMPONENTS, EDGES, FAILING}
 use Rattle.arch_model.specs.declared.template.Component.{Component}
 use Rattle.arch_model.specs.declared.template.Edge.{Edge}
+use Rattle.arch_model.specs.declared.template.Role.TheVariants.{Sink}
 use Rattle.arch_model.specs.declared.library.TypeRow.{TypeRow}
 use Rattle.arch_model.specs.declared.library.LinkRow.{LinkRow}
 use Rattle.arch_model.specs.declared.library.Pattern.{Pattern}
@@ -23,18 +24,19 @@ use Rattle.arch_model.specs.Member.{fails_of}
 use Rattle.lib_read.specs.declared.fault.LibClass.{LibClass}
 use Rattle.lib_read.specs.declared.fault.LibClass.TheVariants.{UnknownKey, MissingKey, WrongKind, BadName, Duplicate, UnknownName, Range}
 use Rattle.lib_read.specs.declared.fault.TableName.{TableName}
-use Rattle.lib_read.specs.declared.fault.TableName.TheVariants.{Library, Types, Links, Patterns}
+use Rattle.lib_read.specs.declared.fault.TableName.TheVariants.{Library, Types, Links, Patterns, Requires}
 use Rattle.lib_read.specs.Tree.{text_at, rows_of}
 use Rattle.lib_read.specs.Schema.{table_keys}
 use Rattle.lib_read.specs.Faults.{fault, faulty_keys, row_faults, table_faults, class_faults, is_repeat, repeat_faults, repeated_names, repeated_links, link_ends, same_ends, plain_faults, judged_faults}
 use Rattle.lib_read.specs.Components.{instance_names, component_names}
 use Rattle.template.specs.Names.{instance_name}
-use Rattle.lib_read.specs.Rows.{type_names, type_row, link_row, pattern_row, types_of, links_of, patterns_of, library_of_tree}
+use Rattle.lib_read.specs.Rows.{type_names, type_row, link_row, pattern_row, requirement_row, types_of, links_of, patterns_of, requirements_of, library_of_tree}
 use Rattle.lib_read.specs.Inner.Building.{PatternFits}
 use Rattle.template.proofs.Numbers.{length-types-le}
 use Rattle.template.proofs.NameLaws.{instance_at}
 use Rattle.lib_read.proofs.ListFacts.{append_nil, map_nil, one_nil, flat_map_nil, all_index, all_rec, all_mapped, all_some, all_flat, all_of_map, values_all, length-values-le, none_passes}
-use Rattle.lib_read.proofs.CleanRows.{CleanType, CleanLink, CleanPattern, clean_type, clean_link, clean_pattern}
+use Rattle.lib_read.proofs.CleanRows.{CleanType, CleanLink, CleanPattern, CleanRequirement, clean_type, clean_link, clean_pattern, clean_requirement}
+use Rattle.lib_read.proofs.SinkLemmas.{sink_fits}
 
 -- the parts of a list of faults without any
 pub record Judged (top : Data) : Type 0 where
@@ -70,16 +72,21 @@ pub record TablesClear (names : List (List ℕ)) (class : LibClass) (top : Data)
   pub types : RowsClear names class Types top
   pub links : RowsClear names class Links top
   pub patterns : RowsClear names class Patterns top
+  pub requirements : RowsClear names class Requires top
 
 tables_clear : (names : List (List ℕ)) (class : LibClass) (top : Data) → class_faults names class top ≡ [] → TablesClear names class top
 tables_clear names class top e =
-    let parts = append_nil (row_faults top names class Library 0 top) (table_faults names class Types top ++ (table_faults names class Links top ++ table_faults names class Patterns top)) e in
-    let types = append_nil (table_faults names class Types top) (table_faults names class Links top ++ table_faults names class Patterns top) parts.1 in
-    let links = append_nil (table_faults names class Links top) (table_faults names class Patterns top) types.1 in
+    let after_links = table_faults names class Patterns top ++ table_faults names class Requires top in
+    let after_types = table_faults names class Links top ++ after_links in
+    let parts = append_nil (row_faults top names class Library 0 top) (table_faults names class Types top ++ after_types) e in
+    let types = append_nil (table_faults names class Types top) after_types parts.1 in
+    let links = append_nil (table_faults names class Links top) after_links types.1 in
+    let patterns = append_nil (table_faults names class Patterns top) (table_faults names class Requires top) links.1 in
     record {
       types = rows_clear names class Types top types.0;
       links = rows_clear names class Links top links.0;
-      patterns = rows_clear names class Patterns top links.1;
+      patterns = rows_clear names class Patterns top patterns.0;
+      requirements = rows_clear names class Requires top patterns.1;
     }
 
 pub clean_types : (top : Data) → Judged top → All CleanType (rows_of Types top)
@@ -96,6 +103,11 @@ pub clean_patterns : (top : Data) → Judged top → All (CleanPattern top (type
 clean_patterns top j = λ i d here.
     clean_pattern top (type_names top) (get_or (rows_of Patterns top) i d) ((tables_clear [] MissingKey top j.missing).patterns i d here) ((tables_clear [] WrongKind top j.kind).patterns i d here)
     ((tables_clear (type_names top) UnknownName top j.unknown).patterns i d here) ((tables_clear (type_names top) Range top j.range).patterns i d here)
+
+pub clean_requirements : (top : Data) → Judged top → All (CleanRequirement top) (rows_of Requires top)
+clean_requirements top j = λ i d here.
+    clean_requirement top (type_names top) (get_or (rows_of Requires top) i d) ((tables_clear [] MissingKey top j.missing).requirements i d here) ((tables_clear [] WrongKind top j.kind).requirements i d here)
+    ((tables_clear (type_names top) UnknownName top j.unknown).requirements i d here) ((tables_clear (type_names top) Range top j.range).requirements i d here)
 
 -- a fact of each row, as one of what is made of it
 pub made : {Y : Type 0} (P : Y → Type 0) (f : Data → Y) (rs : List Data) → All (λ row. P (f row)) rs → All P (map f rs)
@@ -143,6 +155,13 @@ patterns_fit top j =
     (all_index (IsPatternRow (length (type_names top)) (length (component_names top))) (patterns_of top)
     (all_some (IsPatternRow (length (type_names top)) (length (component_names top))) (pattern_row (type_names top) (component_names top)) (rows_of Patterns top)
     (all_rec (λ row. IfSome (pattern_row (type_names top) (component_names top) row) (IsPatternRow (length (type_names top)) (length (component_names top)))) (rows_of Patterns top) (λ i d here. (clean_patterns top j i d here).row_fits)))))
+
+pub sinks_fit : (top : Data) → Judged top → All (λ r. IsSomeAnd (slice_get (components_of (types_of top)) r.sink.0) (λ row. row.role ≡ Sink)) (requirements_of top)
+sinks_fit top j = made (λ r. IsSomeAnd (slice_get (components_of (types_of top)) r.sink.0) (λ row. row.role ≡ Sink)) (requirement_row (component_names top)) (rows_of Requires top)
+    (λ i d here. sink_fits top (get_or (rows_of Requires top) i d) (clean_requirements top j i d here) (as_many top))
+
+pub bounds_fit : (top : Data) → Judged top → All (λ r. r.bound ≤ 10 ^ 18) (requirements_of top)
+bounds_fit top j = made (λ r. r.bound ≤ 10 ^ 18) (requirement_row (component_names top)) (rows_of Requires top) (λ i d here. (clean_requirements top j i d here).bound)
 
 pub pattern_rows_fit : (top : Data) → Judged top → All PatternFits (rows_of Patterns top)
 pattern_rows_fit top j = λ i d here. (clean_patterns top j i d here).fits
@@ -227,8 +246,8 @@ few_fail lib few none =
     let both = sum_by-append (λ p. cond (nat_lt 0 p) 1 0) (map (λ c. c.fail) lib.components) (map (λ e. e.fail) lib.edges) in
     omega (arith, both, no_fails lib.edges none, count_by-le-length (λ p. nat_lt 0 p) (map (λ c. c.fail) lib.components), length-map lib.components (λ c. c.fail))
 
-pub is_library : (top : Data) → Judged top → length (components_of (types_of top)) ≤ COMPONENTS → length (edges_of (components_of (types_of top)) (links_of top)) ≤ EDGES → length (rows_of Patterns top) ≤ 200 → IsLibrary (library_of_tree top)
-is_library top j components edges patterns = record {
+pub is_library : (top : Data) → Judged top → length (components_of (types_of top)) ≤ COMPONENTS → length (edges_of (components_of (types_of top)) (links_of top)) ≤ EDGES → length (rows_of Patterns top) ≤ 200 → length (rows_of Requires top) ≤ 16 → IsLibrary (library_of_tree top)
+is_library top j components edges patterns requirements = record {
   types = types_fit top j;
   names = names_differ top j;
   links = links_fit top j;
@@ -236,12 +255,12 @@ is_library top j components edges patterns = record {
   components = refl;
   edges = refl;
   patterns = patterns_fit top j;
-  sinks = λ i d here. absurd (omega arith);
-  bounds = λ i d here. absurd (omega arith);
+  sinks = sinks_fit top j;
+  bounds = bounds_fit top j;
   few_components = components;
   few_edges = edges;
   few_patterns = omega (arith, length-values-le (pattern_row (type_names top) (component_names top)) (rows_of Patterns top));
-  few_requirements = omega arith;
+  few_requirements = omega (arith, length-map (rows_of Requires top) (requirement_row (component_names top)));
   few_failing = few_fail (library_of_tree top) components
       (all_flat (λ link. link.fail ≡ 0) (λ e. e.fail ≡ 0) (edges_of_link (components_of (types_of top))) (edges_hold (components_of (types_of top))) (links_of top) (all_of_map (λ link. link.fail ≡ 0) (link_row (type_names top)) (λ row. refl) (rows_of Links top)));
 }
@@ -265,7 +284,7 @@ few_types types top j same few = omega (arith, ap length same, length-types-le (
 
 -- the parts of the library, as they were read
 pub parts_are : (top : Data) (types : List TypeRow) (links : List LinkRow) (template : TemplateParts) (patterns : List Pattern) (requirements : List Requirement)
-    → types ≡ types_of top → links ≡ links_of top → template ≡ template_of types links → patterns ≡ patterns_of top → requirements ≡ [] → library_parts types links template patterns requirements ≡ library_of_tree top
+    → types ≡ types_of top → links ≡ links_of top → template ≡ template_of types links → patterns ≡ patterns_of top → requirements ≡ requirements_of top → library_parts types links template patterns requirements ≡ library_of_tree top
 parts_are top types links template patterns requirements t l m p r =
     let whole : template ≡ template_of (types_of top) (links_of top) = rw (← t, ← l) m in
     rw (whole, t, l, p, r)

@@ -12,9 +12,9 @@ use Rattle.lib_read.specs.declared.fault.LibClass.TheVariants.{MissingKey, Wrong
 use Rattle.lib_read.specs.declared.schema.Kind.{Kind}
 use Rattle.lib_read.specs.declared.schema.Kind.TheVariants.{Count, InDegree, OutDegree, InNeedsOut, Exclusive, Implies, Forbid, TotalSupply, LocalSupply, CostCap}
 use Rattle.lib_read.specs.Tree.{text_at, integer_at}
-use Rattle.lib_read.specs.Schema.{KeyRow, type_keys, link_keys, kind_keys, any_keys, row_kind, is_faulty, is_named, is_type_name, is_between}
+use Rattle.lib_read.specs.Schema.{KeyRow, type_keys, link_keys, require_keys, kind_keys, any_keys, is_sink, row_kind, is_faulty, is_named, is_type_name, is_between}
 use Rattle.lib_read.specs.Faults.{faulty_keys, link_ends}
-use Rattle.lib_read.specs.Components.{number, component_names}
+use Rattle.lib_read.specs.Components.{number, number_or, component_names}
 use Rattle.lib_read.specs.Rows.{type_at, type_row, link_row, kind_row, pattern_row}
 use Rattle.lib_read.specs.Inner.Building.{KindFits, PatternFits}
 use Rattle.arch_model.proofs.Members.{and_left, and_right}
@@ -119,7 +119,7 @@ clean_type top names row missing kind bad range =
     [] type_keys (clean_table top names) row kind missing kind bad range
 
 -- a name's number, and the name at that number
-found_below : (p : List ℕ → Bool) (names : List (List ℕ)) → list_any p names ≡ true → (prefix_len (λ x. not (p x)) names < length names) × ((d : List ℕ) → p (get_or names (prefix_len (λ x. not (p x)) names) d) ≡ true)
+pub found_below : (p : List ℕ → Bool) (names : List (List ℕ)) → list_any p names ≡ true → (prefix_len (λ x. not (p x)) names < length names) × ((d : List ℕ) → p (get_or names (prefix_len (λ x. not (p x)) names) d) ≡ true)
 found_below p [] h = absurd (cc)
 found_below p (x ∷ xs) h =
     elim (p x) as (λ b. ((b || list_any p xs) ≡ true) → p x ≡ b → (cond (not b) (1 + prefix_len (λ y. not (p y)) xs) 0 < suc (length xs))
@@ -352,3 +352,34 @@ pub clean_pattern : (top : Data) (names : List (List ℕ)) (row : Data) → faul
 clean_pattern top names row missing kind unknown range =
     for_table top (λ d. faulty_keys top [] MissingKey (pattern_keys d) d ≡ [] → faulty_keys top [] WrongKind (pattern_keys d) d ≡ [] → faulty_keys top names UnknownName (pattern_keys d) d ≡ [] → faulty_keys top names Range (pattern_keys d) d ≡ [] → CleanPattern top names d)
     [] (pattern_keys row) (clean_pattern_table top names) row kind missing kind unknown range
+
+-- a requirement's row
+pub record CleanRequirement (top : Data) (row : Data) : Type 0 where
+  pub name : List ℕ
+  pub there : Some name ≡ text_at (codes "sink") row
+  pub known : is_named (component_names top) name ≡ true
+  pub sink : is_sink top name ≡ true
+  pub bound : number_or 0 (codes "bound") row ≤ 10 ^ 18
+
+clean_requirement_table : (top : Data) (names : List (List ℕ)) (ms : Members) → faulty_keys top [] MissingKey require_keys (table ms) ≡ [] → faulty_keys top [] WrongKind require_keys (table ms) ≡ []
+    → faulty_keys top names UnknownName require_keys (table ms) ≡ [] → faulty_keys top names Range require_keys (table ms) ≡ [] → CleanRequirement top (table ms)
+clean_requirement_table top names ms missing kind unknown range =
+    let row : Data = table ms in
+    let m = none_faulty (is_faulty top [] MissingKey row) require_keys missing in
+    let k = none_faulty (is_faulty top [] WrongKind row) require_keys kind in
+    let u = none_faulty (is_faulty top names UnknownName row) require_keys unknown in
+    let r = none_faulty (is_faulty top names Range row) require_keys range in
+    let name = text_there (get (codes "sink") row) m.1.0 k.1.0 in
+    record {
+      name = name.0;
+      there = name.1;
+      known = text_passes (is_named (component_names top)) (text_at (codes "sink") row) name.0 name.1 u.1.0;
+      sink = text_passes (is_sink top) (text_at (codes "sink") row) name.0 name.1 r.1.0;
+      bound = (number_within 0 (10 ^ 18) 0 (integer_at (codes "bound") row) (lit≤ tt) (lit≤ tt) r.0).1;
+    }
+
+pub clean_requirement : (top : Data) (names : List (List ℕ)) (row : Data) → faulty_keys top [] MissingKey require_keys row ≡ [] → faulty_keys top [] WrongKind require_keys row ≡ []
+    → faulty_keys top names UnknownName require_keys row ≡ [] → faulty_keys top names Range require_keys row ≡ [] → CleanRequirement top row
+clean_requirement top names row missing kind unknown range =
+    for_table top (λ d. faulty_keys top [] MissingKey require_keys d ≡ [] → faulty_keys top [] WrongKind require_keys d ≡ [] → faulty_keys top names UnknownName require_keys d ≡ [] → faulty_keys top names Range require_keys d ≡ [] → CleanRequirement top d)
+    [] require_keys (clean_requirement_table top names) row kind missing kind unknown range

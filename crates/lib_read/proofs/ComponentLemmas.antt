@@ -1,6 +1,6 @@
 -- Names of components: a type's name, a dot and an index.
-use Rattle.std.proofs.Common.{◌≡◌, ◌≢◌, ℕ, ◌+◌, ◌^◌, ◌<◌, ◌≤◌, Bool, true, false, ◌||◌, nat_le, List, [], ◌∷◌, ◌++◌, map, drop, length, get_or, refl, sym, ap, ◌∙◌, arith, inl, inr, ◌-◌, le-leb, String, Global, string_bytes}
-use Rattle.std.specs.List.{list_any, flat_map, range_with_len}
+use Rattle.std.proofs.Common.{◌≡◌, ◌≢◌, ℕ, ◌+◌, ◌^◌, ◌<◌, ◌≤◌, Bool, true, false, ◌||◌, nat_le, List, [], ◌∷◌, ◌++◌, map, drop, length, get_or, Option, Some, None, is_some, option_map, cond, refl, sym, ap, ◌∙◌, arith, inl, inr, ◌-◌, le-leb, String, Global, string_bytes}
+use Rattle.std.specs.List.{list_any, flat_map, range_with_len, find}
 use Rattle.std.specs.Str.{bytes_eq}
 use Rattle.std.specs.Cmp.Lexicographic.{bytes_decides}
 use Rattle.std.proofs.lemmas.Bool.{cases_Bool, cases_lt, lt-leb}
@@ -60,14 +60,29 @@ named_by_none name text max few none =
 pub same_names : (rs : List Data) → flat_map names_of_type (map type_row rs) ≡ flat_map instance_names rs
 same_names rs = flat_map-map names_of_type type_row rs
 
--- a name among those of some rows
-pub named_here : (text : List ℕ) (vs : List Value) (i : ℕ) (d : Value) (all : Bool) → i < length vs → true ≡ is_named (instance_names (view (get_or vs i d))) text
-    → is_named (flat_map instance_names (map view (drop i vs))) text ≡ all → true ≡ all
-named_here text vs i d all here found before =
-    ap (λ b. b || is_named (flat_map instance_names (map view (drop (i + 1) vs))) text) found
-    ∙ sym (list_any-append (bytes_eq text) (instance_names (view (get_or vs i d))) (flat_map instance_names (map view (drop (i + 1) vs))))
-    ∙ sym (at_drop_more (λ l. is_named (flat_map instance_names (map view l)) text) vs i d here)
+-- whether a row has an instance of a name
+abbrev pub owns : List ℕ → Data → Bool
+owns text row = is_named (instance_names row) text
+
+-- what a look-up finds at the row that a loop is at
+pub found_here : (text : List ℕ) (vs : List Value) (i : ℕ) (d : Value) (all : Option Data) → i < length vs → true ≡ owns text (view (get_or vs i d)) → find (owns text) (map view (drop i vs)) ≡ all → Some (view (get_or vs i d)) ≡ all
+found_here text vs i d all here found before =
+    ap (λ b. cond b (Some (view (get_or vs i d))) (find (owns text) (map view (drop (i + 1) vs)))) found
+    ∙ sym (at_drop_more (λ l. find (owns text) (map view l)) vs i d here)
     ∙ before
+
+-- a name is that of a component where some row has an instance of it
+pub owned_or_not : (text : List ℕ) (rs : List Data) → is_some (find (owns text) rs) ≡ is_named (flat_map instance_names rs) text
+owned_or_not text [] = refl
+owned_or_not text (row ∷ rs) = chosen (owns text row) (owned_or_not text rs) ∙ sym (list_any-append (bytes_eq text) (instance_names row) (flat_map instance_names rs))
+  where
+    chosen : (b : Bool) → is_some (find (owns text) rs) ≡ is_named (flat_map instance_names rs) text → is_some (cond b (Some row) (find (owns text) rs)) ≡ (b || is_named (flat_map instance_names rs) text)
+    chosen true rest = refl
+    chosen false rest = rest
+
+pub still_some : {X Y : Type 0} (f : X → Y) (o : Option X) → is_some o ≡ is_some (option_map f o)
+still_some f None = refl
+still_some f (Some x) = refl
 
 -- one more instance's name
 pub one_more : (names : List (String Global)) (before : List (List ℕ)) (name : List ℕ) (i : ℕ) (s : String Global) → map string_bytes names ≡ before ++ map (instance_name name) (range_with_len 1 i) → string_bytes s ≡ instance_name name (i + 1)

@@ -198,8 +198,8 @@ either_ascends (Some kind) = kind_ascends kind
 
 pub keys_ascend : (t : TableName) (row : Data) → Ascend (map named (table_keys t row))
 unfolding IsStrictlySortedBy
-keys_ascend Library row = ((refl, (refl, tt)), ((refl, tt), (tt, tt)))
+keys_ascend Library row = ((refl, (refl, (refl, tt))), ((refl, (refl, tt)), ((refl, tt), (tt, tt))))
 keys_ascend Types row = ((refl, (refl, (refl, (refl, (refl, (refl, tt)))))), ((refl, (refl, (refl, (refl, (refl, tt))))), ((refl, (refl, (refl, (refl, tt)))), ((refl, (refl, (refl, tt))), ((refl, (refl, tt)), ((refl, tt), (tt, tt)))))))
 keys_ascend Links row = ((refl, (refl, tt)), ((refl, tt), (tt, tt)))
 keys_ascend Patterns row = either_ascends (row_kind row)
-keys_ascend Requires row = tt
+keys_ascend Requires row = ((refl, tt), (tt, tt))

@@ -7,10 +7,10 @@ pub mod ComponentLemmas
 pub mod RepeatLemmas
 pub mod ListFacts
 pub mod CleanRows
+pub mod SinkLemmas
 pub mod CleanLibrary
 pub mod RestLemmas
 pub mod RowLemmas
 pub mod PositionLemmas
 pub mod ReadLemmas
 pub mod WorkedRows
-pub mod Unrequired

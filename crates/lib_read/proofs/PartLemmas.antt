@@ -8,7 +8,7 @@ use Rattle.arch_model.specs.Template.{components_of, edges_of}
 use Rattle.lib_read.specs.declared.fault.LibClass.{LibClass}
 use Rattle.lib_read.specs.declared.fault.LibClass.TheVariants.{UnknownKey, MissingKey, WrongKind, BadName, Duplicate, UnknownName, Range, TooMany}
 use Rattle.lib_read.specs.declared.fault.TableName.{TableName}
-use Rattle.lib_read.specs.declared.fault.TableName.TheVariants.{Library, Types, Links, Patterns}
+use Rattle.lib_read.specs.declared.fault.TableName.TheVariants.{Library, Types, Links, Patterns, Requires}
 use Rattle.lib_read.specs.declared.fault.LibFault.{LibFault}
 use Rattle.lib_read.specs.Fault.{class_rank, table_rank, least}
 use Rattle.lib_read.specs.Tree.{text_at, rows_of}
@@ -25,41 +25,68 @@ module _ (names : List (List ℕ)) (c : LibClass) (top : Data) where
   as_tables : (t : TableName) (n : ℕ) → n ≤ table_rank t → AllByRecursion (InTables c n) (table_faults names c t top)
   as_tables t n low = all_weaker (InTable c t 1) (InTables c n) (λ f h. record { class = h.class; table = omega (arith, ap table_rank h.table) }) (table_faults names c t top) (table_in t)
 
-  from_links : (n : ℕ) → n ≤ 2 → AllByRecursion (InTables c n) (table_faults names c Links top ++ table_faults names c Patterns top)
-  from_links n low = all_both (InTables c n) (table_faults names c Links top) (table_faults names c Patterns top) (as_tables Links n low) (as_tables Patterns n (omega arith))
+  -- the faults of the tables that come later
+  abbrev after_links : List LibFault
+  after_links = table_faults names c Patterns top ++ table_faults names c Requires top
 
-  from_types : AllByRecursion (InTables c 1) (table_faults names c Types top ++ (table_faults names c Links top ++ table_faults names c Patterns top))
-  from_types = all_both (InTables c 1) (table_faults names c Types top) (table_faults names c Links top ++ table_faults names c Patterns top) (as_tables Types 1 (omega arith)) (from_links 1 (omega arith))
+  abbrev after_types : List LibFault
+  after_types = table_faults names c Links top ++ after_links
 
-  library_first : AreBefore (row_faults top names c Library 0 top) (table_faults names c Types top ++ (table_faults names c Links top ++ table_faults names c Patterns top))
-  library_first = row_before_tables c Library 0 (row_faults top names c Library 0 top) (table_faults names c Types top ++ (table_faults names c Links top ++ table_faults names c Patterns top)) (row_faults_in c Library 0 (faulty_keys top names c (table_keys Library top) top)) from_types
+  abbrev after_library : List LibFault
+  after_library = table_faults names c Types top ++ after_types
 
-  types_next : AreBefore (table_faults names c Types top) (table_faults names c Links top ++ table_faults names c Patterns top)
-  types_next = table_before_tables c Types 1 (table_faults names c Types top) (table_faults names c Links top ++ table_faults names c Patterns top) (table_in Types) (from_links 2 (omega arith))
+  from_patterns : (n : ℕ) → n ≤ 3 → AllByRecursion (InTables c n) after_links
+  from_patterns n low = all_both (InTables c n) (table_faults names c Patterns top) (table_faults names c Requires top) (as_tables Patterns n low) (as_tables Requires n (omega arith))
 
-  links_next : AreBefore (table_faults names c Links top) (table_faults names c Patterns top)
-  links_next = table_before_tables c Links 1 (table_faults names c Links top) (table_faults names c Patterns top) (table_in Links) (as_tables Patterns 3 (omega arith))
+  from_links : (n : ℕ) → n ≤ 2 → AllByRecursion (InTables c n) after_types
+  from_links n low = all_both (InTables c n) (table_faults names c Links top) after_links (as_tables Links n low) (from_patterns n (omega arith))
+
+  from_types : AllByRecursion (InTables c 1) after_library
+  from_types = all_both (InTables c 1) (table_faults names c Types top) after_types (as_tables Types 1 (omega arith)) (from_links 1 (omega arith))
+
+  library_first : AreBefore (row_faults top names c Library 0 top) after_library
+  library_first = row_before_tables c Library 0 (row_faults top names c Library 0 top) after_library (row_faults_in c Library 0 (faulty_keys top names c (table_keys Library top) top)) from_types
+
+  types_next : AreBefore (table_faults names c Types top) after_types
+  types_next = table_before_tables c Types 1 (table_faults names c Types top) after_types (table_in Types) (from_links 2 (omega arith))
+
+  links_next : AreBefore (table_faults names c Links top) after_links
+  links_next = table_before_tables c Links 1 (table_faults names c Links top) after_links (table_in Links) (from_patterns 3 (omega arith))
+
+  patterns_next : AreBefore (table_faults names c Patterns top) (table_faults names c Requires top)
+  patterns_next = table_before_tables c Patterns 1 (table_faults names c Patterns top) (table_faults names c Requires top) (table_in Patterns) (as_tables Requires 4 (omega arith))
 
   -- where the first table with a fault is found
   pub in_library : (f : LibFault) → Some f ≡ least (row_faults top names c Library 0 top) → Some f ≡ least (class_faults names c top)
-  in_library f e = sym (least-here (row_faults top names c Library 0 top) (table_faults names c Types top ++ (table_faults names c Links top ++ table_faults names c Patterns top)) f library_first e)
+  in_library f e = sym (least-here (row_faults top names c Library 0 top) after_library f library_first e)
 
-  pub past_library : None ≡ least (row_faults top names c Library 0 top) → least (class_faults names c top) ≡ least (table_faults names c Types top ++ (table_faults names c Links top ++ table_faults names c Patterns top))
-  past_library e = least-past (row_faults top names c Library 0 top) (table_faults names c Types top ++ (table_faults names c Links top ++ table_faults names c Patterns top)) e
+  pub past_library : None ≡ least (row_faults top names c Library 0 top) → least (class_faults names c top) ≡ least after_library
+  past_library e = least-past (row_faults top names c Library 0 top) after_library e
 
   pub in_types : (f : LibFault) → None ≡ least (row_faults top names c Library 0 top) → Some f ≡ least (table_faults names c Types top) → Some f ≡ least (class_faults names c top)
-  in_types f e g = sym (past_library e ∙ least-here (table_faults names c Types top) (table_faults names c Links top ++ table_faults names c Patterns top) f types_next g)
+  in_types f e g = sym (past_library e ∙ least-here (table_faults names c Types top) after_types f types_next g)
 
-  pub past_types : None ≡ least (row_faults top names c Library 0 top) → None ≡ least (table_faults names c Types top) → least (class_faults names c top) ≡ least (table_faults names c Links top ++ table_faults names c Patterns top)
-  past_types e g = past_library e ∙ least-past (table_faults names c Types top) (table_faults names c Links top ++ table_faults names c Patterns top) g
+  pub past_types : None ≡ least (row_faults top names c Library 0 top) → None ≡ least (table_faults names c Types top) → least (class_faults names c top) ≡ least after_types
+  past_types e g = past_library e ∙ least-past (table_faults names c Types top) after_types g
 
   pub in_links : (f : LibFault) → None ≡ least (row_faults top names c Library 0 top) → None ≡ least (table_faults names c Types top) → Some f ≡ least (table_faults names c Links top) → Some f ≡ least (class_faults names c top)
-  in_links f e g h = sym (past_types e g ∙ least-here (table_faults names c Links top) (table_faults names c Patterns top) f links_next h)
+  in_links f e g h = sym (past_types e g ∙ least-here (table_faults names c Links top) after_links f links_next h)
+
+  pub past_links : None ≡ least (row_faults top names c Library 0 top) → None ≡ least (table_faults names c Types top) → None ≡ least (table_faults names c Links top) → least (class_faults names c top) ≡ least after_links
+  past_links e g h = past_types e g ∙ least-past (table_faults names c Links top) after_links h
+
+  pub in_patterns : (f : LibFault) → None ≡ least (row_faults top names c Library 0 top) → None ≡ least (table_faults names c Types top) → None ≡ least (table_faults names c Links top) → Some f ≡ least (table_faults names c Patterns top)
+      → Some f ≡ least (class_faults names c top)
+  in_patterns f e g h i = sym (past_links e g h ∙ least-here (table_faults names c Patterns top) (table_faults names c Requires top) f patterns_next i)
+
+  pub past_patterns : None ≡ least (row_faults top names c Library 0 top) → None ≡ least (table_faults names c Types top) → None ≡ least (table_faults names c Links top) → None ≡ least (table_faults names c Patterns top)
+      → least (class_faults names c top) ≡ least (table_faults names c Requires top)
+  past_patterns e g h i = past_links e g h ∙ least-past (table_faults names c Patterns top) (table_faults names c Requires top) i
 
   of_class : AllByRecursion (λ f. f.class ≡ c) (class_faults names c top)
-  of_class = all_both (λ f. f.class ≡ c) (row_faults top names c Library 0 top) (table_faults names c Types top ++ (table_faults names c Links top ++ table_faults names c Patterns top))
+  of_class = all_both (λ f. f.class ≡ c) (row_faults top names c Library 0 top) after_library
       (all_weaker (InRow c Library 0) (λ f. f.class ≡ c) (λ f h. h.class) (row_faults top names c Library 0 top) (row_faults_in c Library 0 (faulty_keys top names c (table_keys Library top) top)))
-      (all_weaker (InTables c 1) (λ f. f.class ≡ c) (λ f h. h.class) (table_faults names c Types top ++ (table_faults names c Links top ++ table_faults names c Patterns top)) from_types)
+      (all_weaker (InTables c 1) (λ f. f.class ≡ c) (λ f h. h.class) after_library from_types)
 
   class_up : (n : ℕ) → class_rank c ≤ n → AllByRecursion (UpTo n) (class_faults names c top)
   class_up n low = all_weaker (λ f. f.class ≡ c) (UpTo n) (λ f h. omega (arith, ap class_rank h)) (class_faults names c top) of_class
@@ -142,16 +169,17 @@ plain_before top = classes_apart 6 (plain_faults top) (repeated_names top ++ (re
 
 limit_from : (top : Data) → AllByRecursion (From 10) (limit_faults top)
 limit_from top =
-    of_three (nat_lt COMPONENTS (length (components_of (types_of top)))) (nat_lt EDGES (length (edges_of (components_of (types_of top)) (links_of top)))) (nat_lt 200 (length (rows_of Patterns top)))
+    of_four (nat_lt COMPONENTS (length (components_of (types_of top)))) (nat_lt EDGES (length (edges_of (components_of (types_of top)) (links_of top)))) (nat_lt 200 (length (rows_of Patterns top))) (nat_lt 16 (length (rows_of Requires top)))
   where
     one : (key : List ℕ) → AllByRecursion (From 10) (fault TooMany Library 0 key ∷ [])
     one key = (omega arith, tt)
 
-    of_three : (a b c : Bool) → AllByRecursion (From 10) (cond a (fault TooMany Library 0 (codes "type") ∷ []) (cond b (fault TooMany Library 0 (codes "link") ∷ []) (cond c (fault TooMany Library 0 (codes "pattern") ∷ []) [])))
-    of_three true b c = one (codes "type")
-    of_three false true c = one (codes "link")
-    of_three false false true = one (codes "pattern")
-    of_three false false false = tt
+    of_four : (a b c d : Bool) → AllByRecursion (From 10) (cond a (fault TooMany Library 0 (codes "type") ∷ []) (cond b (fault TooMany Library 0 (codes "link") ∷ []) (cond c (fault TooMany Library 0 (codes "pattern") ∷ []) (cond d (fault TooMany Library 0 (codes "require") ∷ []) []))))
+    of_four true b c d = one (codes "type")
+    of_four false true c d = one (codes "link")
+    of_four false false true d = one (codes "pattern")
+    of_four false false false true = one (codes "require")
+    of_four false false false false = tt
 
 pub judged_before : (top : Data) → AreBefore (judged_faults top) (limit_faults top)
 judged_before top = classes_apart 9 (judged_faults top) (limit_faults top)

@@ -9,7 +9,7 @@ use Rattle.arch_model.specs.Template.{components_of, edges_of}
 use Rattle.lib_read.specs.declared.fault.LibClass.{LibClass}
 use Rattle.lib_read.specs.declared.fault.LibClass.TheVariants.{UnknownKey, MissingKey, WrongKind, BadName, Duplicate, UnknownName, Range, TooMany}
 use Rattle.lib_read.specs.declared.fault.TableName.{TableName}
-use Rattle.lib_read.specs.declared.fault.TableName.TheVariants.{Library, Types, Links, Patterns}
+use Rattle.lib_read.specs.declared.fault.TableName.TheVariants.{Library, Types, Links, Patterns, Requires}
 use Rattle.lib_read.specs.declared.fault.LibFault.{LibFault}
 use Rattle.lib_read.specs.Fault.{least}
 use Rattle.lib_read.specs.Tree.{tree_of, text_at, rows_of, table_key}
@@ -41,10 +41,13 @@ module _ (n : ℕ) (top : Data) (few : (t : TableName) → length (rows_of t top
 
   class_within : (names : List (List ℕ)) (c : LibClass) → AllByRecursion (Within n) (class_faults names c top)
   class_within names c =
-      all_both (Within n) (row_faults top names c Library 0 top) (table_faults names c Types top ++ (table_faults names c Links top ++ table_faults names c Patterns top))
-      (row_within names c Library 0 top (omega arith))
-      (all_both (Within n) (table_faults names c Types top) (table_faults names c Links top ++ table_faults names c Patterns top) (table_within names c Types)
-      (all_both (Within n) (table_faults names c Links top) (table_faults names c Patterns top) (table_within names c Links) (table_within names c Patterns)))
+      let requirements = table_faults names c Requires top in
+      let patterns = table_faults names c Patterns top ++ requirements in
+      let links = table_faults names c Links top ++ patterns in
+      all_both (Within n) (row_faults top names c Library 0 top) (table_faults names c Types top ++ links) (row_within names c Library 0 top (omega arith))
+      (all_both (Within n) (table_faults names c Types top) links (table_within names c Types)
+      (all_both (Within n) (table_faults names c Links top) patterns (table_within names c Links)
+      (all_both (Within n) (table_faults names c Patterns top) requirements (table_within names c Patterns) (table_within names c Requires))))
 
   repeat_within : {X : Type 0} (same : X → X → Bool) (value : Data → Option X) (t : TableName) (key : List ℕ) → AllByRecursion (Within n) (repeat_faults same value t key top)
   repeat_within same value t key =
@@ -58,13 +61,14 @@ module _ (n : ℕ) (top : Data) (few : (t : TableName) → length (rows_of t top
 
   limit_within : AllByRecursion (Within n) (limit_faults top)
   limit_within =
-      of_three (nat_lt COMPONENTS (length (components_of (types_of top)))) (nat_lt EDGES (length (edges_of (components_of (types_of top)) (links_of top)))) (nat_lt 200 (length (rows_of Patterns top)))
+      of_four (nat_lt COMPONENTS (length (components_of (types_of top)))) (nat_lt EDGES (length (edges_of (components_of (types_of top)) (links_of top)))) (nat_lt 200 (length (rows_of Patterns top))) (nat_lt 16 (length (rows_of Requires top)))
     where
-      of_three : (a b c : Bool) → AllByRecursion (Within n) (cond a (fault TooMany Library 0 (codes "type") ∷ []) (cond b (fault TooMany Library 0 (codes "link") ∷ []) (cond c (fault TooMany Library 0 (codes "pattern") ∷ []) [])))
-      of_three true b c = (omega arith, tt)
-      of_three false true c = (omega arith, tt)
-      of_three false false true = (omega arith, tt)
-      of_three false false false = tt
+      of_four : (a b c d : Bool) → AllByRecursion (Within n) (cond a (fault TooMany Library 0 (codes "type") ∷ []) (cond b (fault TooMany Library 0 (codes "link") ∷ []) (cond c (fault TooMany Library 0 (codes "pattern") ∷ []) (cond d (fault TooMany Library 0 (codes "require") ∷ []) []))))
+      of_four true b c d = (omega arith, tt)
+      of_four false true c d = (omega arith, tt)
+      of_four false false true d = (omega arith, tt)
+      of_four false false false true = (omega arith, tt)
+      of_four false false false false = tt
 
   plain_within : AllByRecursion (Within n) (plain_faults top)
   plain_within =

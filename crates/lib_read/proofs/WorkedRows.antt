@@ -1,16 +1,19 @@
 -- Worked rows: what the definition gives for some texts.
 use Rattle.std.proofs.Common.{◌≡◌, ℕ, List, length, codes, [], ◌∷◌, None, Ok, Err, refl, arith, lt-ltb}
 use Rattle.std.proofs.lemmas.Bool.{le-ltb}
+use Rattle.std.specs.Fmt.{digits}
 use Rattle.std.specs.Str.{chars, is_utf8}
 use Rattle.toml.proofs.OnLiterals.{toml_on_literals}
 use Rattle.arch_model.specs.declared.template.Role.TheVariants.{Source, Middle, Sink}
 use Rattle.arch_model.specs.declared.library.TypeRow.{TypeRow}
+use Rattle.arch_model.specs.declared.sets.CompId.{CompId}
 use Rattle.arch_model.specs.declared.library.LinkRow.{LinkRow}
+use Rattle.arch_model.specs.declared.library.Requirement.{Requirement}
 use Rattle.arch_model.specs.declared.library.Pattern.TheVariants.{Count}
 use Rattle.arch_model.specs.Library.{library_parts}
 use Rattle.arch_model.specs.Template.{template_of}
 use Rattle.lib_read.specs.declared.fault.LibClass.TheVariants.{TooLarge, NotToml, UnknownKey, MissingKey, WrongKind, BadName, Duplicate, UnknownName, Range}
-use Rattle.lib_read.specs.declared.fault.TableName.TheVariants.{Library, Types, Links, Patterns}
+use Rattle.lib_read.specs.declared.fault.TableName.TheVariants.{Library, Types, Links, Patterns, Requires}
 use Rattle.lib_read.specs.Tree.{tree_of}
 use Rattle.lib_read.specs.Faults.{fault}
 use Rattle.lib_read.specs.LibraryOf.{library_of, of_tree}
@@ -86,3 +89,25 @@ one_link : library_of (codes "type = [\n  {name = \"s\", role = \"source\", cost
     ≡ Ok (library_parts (row_s ∷ (row_t ∷ [])) (link_st ∷ []) (template_of (row_s ∷ (row_t ∷ [])) (link_st ∷ [])) [] [])
 unfolding toml_on_literals library_of tree_of is_utf8 chars
 one_link = refl
+
+-- two bounds on the weight of the sink, which is component 1
+abbrev bound_t : ℕ → Requirement
+bound_t bound = record { sink = record { 0 = 1 }; bound = bound }
+
+two_bounds : library_of (codes "type = [\n  {name = \"s\", role = \"source\", cost = 1, fail = 1000},\n  {name = \"t\", role = \"sink\"},\n]\nrequire = [{sink = \"t.1\", bound = 0}, {sink = \"t.1\", bound = 1000000000000000000}]\n")
+    ≡ Ok (library_parts (row_s ∷ (row_t ∷ [])) [] (template_of (row_s ∷ (row_t ∷ [])) []) [] (bound_t 0 ∷ (bound_t 1000000000000000000 ∷ [])))
+unfolding toml_on_literals library_of tree_of is_utf8 chars digits
+two_bounds = refl
+
+-- a component that there isn't is an unknown name, and one that is no sink is out of range
+no_component : library_of (codes "type = [{name = \"s\", role = \"sink\"}]\nrequire = [{sink = \"s.2\", bound = 0}]") ≡ Err (fault UnknownName Requires 1 (codes "sink"))
+unfolding toml_on_literals library_of tree_of is_utf8 chars digits
+no_component = refl
+
+no_sink : library_of (codes "type = [{name = \"s\", role = \"source\"}]\nrequire = [{sink = \"s.1\", bound = 0}]") ≡ Err (fault Range Requires 1 (codes "sink"))
+unfolding toml_on_literals library_of tree_of is_utf8 chars digits
+no_sink = refl
+
+large_bound : library_of (codes "type = [{name = \"s\", role = \"sink\"}]\nrequire = [{sink = \"s.1\", bound = 1000000000000000001}]") ≡ Err (fault Range Requires 1 (codes "bound"))
+unfolding toml_on_literals library_of tree_of is_utf8 chars digits
+large_bound = refl

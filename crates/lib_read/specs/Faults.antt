@@ -4,12 +4,12 @@ use Rattle.std.specs.Option.{option_map_or}
 use Rattle.std.specs.List.{list_any, filter_map, flat_map, enumerate_from}
 use Rattle.std.specs.Str.{bytes_eq}
 use Rattle.toml.specs.Data.{Data, table}
-use Rattle.arch_model.specs.declared.limits.TheConstants.{COMPONENTS, EDGES, PATTERNS}
+use Rattle.arch_model.specs.declared.limits.TheConstants.{COMPONENTS, EDGES, PATTERNS, REQUIREMENTS}
 use Rattle.arch_model.specs.Template.{components_of, edges_of}
 use Rattle.lib_read.specs.declared.fault.LibClass.{LibClass}
 use Rattle.lib_read.specs.declared.fault.LibClass.TheVariants.{UnknownKey, MissingKey, WrongKind, BadName, Duplicate, UnknownName, Range, TooMany}
 use Rattle.lib_read.specs.declared.fault.TableName.{TableName}
-use Rattle.lib_read.specs.declared.fault.TableName.TheVariants.{Library, Types, Links, Patterns}
+use Rattle.lib_read.specs.declared.fault.TableName.TheVariants.{Library, Types, Links, Patterns, Requires}
 use Rattle.lib_read.specs.declared.fault.LibFault.{LibFault}
 use Rattle.lib_read.specs.Tree.{text_at, keys_in, rows_of}
 use Rattle.lib_read.specs.Schema.{KeyRow, table_keys, is_faulty}
@@ -45,7 +45,10 @@ table_faults names class t top = flat_map (λ p. row_faults top names class t p.
 -- the faults of a class that a row has by itself, in the document and in each table
 abbrev pub class_faults : List (List ℕ) → LibClass → Data → List LibFault
 class_faults names class top =
-    row_faults top names class Library 0 top ++ (table_faults names class Types top ++ (table_faults names class Links top ++ table_faults names class Patterns top))
+    row_faults top names class Library 0 top
+    ++ (table_faults names class Types top
+    ++ (table_faults names class Links top
+    ++ (table_faults names class Patterns top ++ table_faults names class Requires top)))
 
 -- whether an earlier row has the value of this one
 abbrev pub is_repeat : {X : Type 0} → (X → X → Bool) → (Data → Option X) → List Data → Data → Bool
@@ -73,13 +76,14 @@ repeated_names top = repeat_faults bytes_eq (text_at (codes "name")) Types (code
 abbrev pub repeated_links : Data → List LibFault
 repeated_links top = repeat_faults same_ends link_ends Links (codes "to") top
 
--- the first limit that is passed: of components, edges and patterns
+-- the first limit that is passed: of components, edges, patterns and requirements
 abbrev pub limit_faults : Data → List LibFault
 limit_faults top =
     let components = components_of (types_of top) in
     if nat_lt COMPONENTS (length components) then fault TooMany Library 0 (codes "type") ∷ []
     else if nat_lt EDGES (length (edges_of components (links_of top))) then fault TooMany Library 0 (codes "link") ∷ []
     else if nat_lt PATTERNS (length (rows_of Patterns top)) then fault TooMany Library 0 (codes "pattern") ∷ []
+    else if nat_lt REQUIREMENTS (length (rows_of Requires top)) then fault TooMany Library 0 (codes "require") ∷ []
     else []
 
 -- the faults of the classes that are judged row by row, whatever the types are called

@@ -10,10 +10,11 @@ use Rattle.arch_model.specs.declared.library.TypeRow.{TypeRow}
 use Rattle.arch_model.specs.declared.library.LinkRow.{LinkRow}
 use Rattle.arch_model.specs.declared.library.Pattern.{Pattern}
 use Rattle.arch_model.specs.declared.library.Pattern.TheVariants as pattern
+use Rattle.arch_model.specs.declared.library.Requirement.{Requirement}
 use Rattle.arch_model.specs.Parts.{LibraryParts}
 use Rattle.arch_model.specs.Library.{library_parts}
 use Rattle.arch_model.specs.Template.{template_of}
-use Rattle.lib_read.specs.declared.fault.TableName.TheVariants.{Types, Links, Patterns}
+use Rattle.lib_read.specs.declared.fault.TableName.TheVariants.{Types, Links, Patterns, Requires}
 use Rattle.lib_read.specs.declared.schema.Kind.{Kind}
 use Rattle.lib_read.specs.declared.schema.Kind.TheVariants.{Count, InDegree, OutDegree, InNeedsOut, Exclusive, Implies, Forbid, TotalSupply, LocalSupply, CostCap}
 use Rattle.lib_read.specs.Tree.{text_at, rows_of}
@@ -78,6 +79,10 @@ kind_row names components row CostCap = pattern.CostCap (number_or 0 (codes "max
 abbrev pub pattern_row : List (List ℕ) → List (List ℕ) → Data → Option Pattern
 pattern_row names components row = option_map (kind_row names components row) (row_kind row)
 
+-- the requirement of a row, where components have these names
+abbrev pub requirement_row : List (List ℕ) → Data → Requirement
+requirement_row components row = record { sink = component_at components (codes "sink") row; bound = number_or 0 (codes "bound") row }
+
 -- the types of a document
 abbrev pub types_of : Data → List TypeRow
 types_of top = map type_row (rows_of Types top)
@@ -90,6 +95,10 @@ links_by names top = map (link_row names) (rows_of Links top)
 abbrev pub patterns_by : List (List ℕ) → List (List ℕ) → Data → List Pattern
 patterns_by names components top = filter_map (pattern_row names components) (rows_of Patterns top)
 
+-- the requirements, by the names of the components
+abbrev pub requirements_by : List (List ℕ) → Data → List Requirement
+requirements_by components top = map (requirement_row components) (rows_of Requires top)
+
 -- the links of a document
 abbrev pub links_of : Data → List LinkRow
 links_of top = links_by (type_names top) top
@@ -98,6 +107,11 @@ links_of top = links_by (type_names top) top
 abbrev pub patterns_of : Data → List Pattern
 patterns_of top = patterns_by (type_names top) (component_names top) top
 
+-- the requirements of a document
+abbrev pub requirements_of : Data → List Requirement
+requirements_of top = requirements_by (component_names top) top
+
 -- the library of a document, with the template of its types and links
 abbrev pub library_of_tree : Data → LibraryParts
-library_of_tree top = library_parts (types_of top) (links_of top) (template_of (types_of top) (links_of top)) (patterns_of top) []
+library_of_tree top =
+    library_parts (types_of top) (links_of top) (template_of (types_of top) (links_of top)) (patterns_of top) (requirements_of top)

@@ -1,7 +1,7 @@
 -- The keys of each table, with what is expected of their values.
 use Rattle.std.specs.Prelude.{codes, ℕ, Bool, true, false, ◌&&◌, not, nat_le, List, [], ◌∷◌, length, Option, Some, None, is_some, is_none, option_and_then, if◌then◌else◌, pos, negsuc, ℤ}
 use Rattle.std.specs.Option.{option_map_or}
-use Rattle.std.specs.List.{list_any, list_all}
+use Rattle.std.specs.List.{list_any, list_all, find}
 use Rattle.std.specs.Str.{bytes_eq}
 use Rattle.toml.specs.Data.{Data, get, as_str, as_integer, as_array}
 use Rattle.arch_model.specs.Name.{begins_lower, is_name_byte}
@@ -12,11 +12,11 @@ use Rattle.lib_read.specs.declared.fault.LibClass.TheVariants.{MissingKey, Wrong
 use Rattle.lib_read.specs.declared.fault.TableName.{TableName}
 use Rattle.lib_read.specs.declared.fault.TableName.TheVariants.{Library, Types, Links, Patterns, Requires}
 use Rattle.lib_read.specs.declared.schema.Meaning.{Meaning}
-use Rattle.lib_read.specs.declared.schema.Meaning.TheVariants.{Rows, NewName, RoleWord, KindWord, TypeName, OtherName, ComponentName, Number, Text, Integer}
+use Rattle.lib_read.specs.declared.schema.Meaning.TheVariants.{Rows, NewName, RoleWord, KindWord, TypeName, OtherName, ComponentName, SinkName, Number, Text, Integer}
 use Rattle.lib_read.specs.declared.schema.Kind.{Kind}
 use Rattle.lib_read.specs.declared.schema.Kind.TheVariants.{Count, InDegree, OutDegree, InNeedsOut, Exclusive, Implies, Forbid, TotalSupply, LocalSupply, CostCap}
-use Rattle.lib_read.specs.Tree.{text_at, integer_at}
-use Rattle.lib_read.specs.Components.{component_names}
+use Rattle.lib_read.specs.Tree.{text_at, integer_at, rows_of}
+use Rattle.lib_read.specs.Components.{instance_names, component_names}
 
 -- a key of a table: whether it is required, and what its value means
 pub record KeyRow : Type 0 where
@@ -34,7 +34,11 @@ takes name meaning = record { name = name; required = false; meaning = meaning }
 
 -- the keys of the document, in byte order
 abbrev pub library_keys : List KeyRow
-library_keys = takes (codes "link") Rows ∷ (takes (codes "pattern") Rows ∷ (takes (codes "type") Rows ∷ []))
+library_keys =
+    takes (codes "link") Rows
+    ∷ (takes (codes "pattern") Rows
+    ∷ (takes (codes "require") Rows
+    ∷ (takes (codes "type") Rows ∷ [])))
 
 -- the keys of a type
 abbrev pub type_keys : List KeyRow
@@ -99,6 +103,10 @@ any_keys =
     ∷ (takes (codes "to") Text
     ∷ (takes (codes "type") Text ∷ [])))))))
 
+-- the keys of a requirement
+abbrev pub require_keys : List KeyRow
+require_keys = needs (codes "bound") (Number 0 1000000000000000000) ∷ (needs (codes "sink") SinkName ∷ [])
+
 -- the role that a text names
 abbrev pub role_of : List ℕ → Option Role
 role_of text =
@@ -132,7 +140,7 @@ table_keys Library row = library_keys
 table_keys Types row = type_keys
 table_keys Links row = link_keys
 table_keys Patterns row = option_map_or kind_keys (row_kind row) any_keys
-table_keys Requires row = []
+table_keys Requires row = require_keys
 
 -- whether a value is of the kind that is stated for its key: an array, an integer or a text
 abbrev pub fits_meaning : Meaning → Data → Bool
@@ -162,13 +170,26 @@ integer_fails test key row = option_map_or (λ z. not (test z)) (integer_at key 
 abbrev pub is_named : List (List ℕ) → List ℕ → Bool
 is_named names text = list_any (bytes_eq text) names
 
--- a value out of its range: a number, a role or a kind, or the name that the key `a` has
-abbrev pub is_out_of_range : Meaning → List ℕ → Data → Bool
-is_out_of_range RoleWord key row = text_fails (λ text. is_some (role_of text)) key row
-is_out_of_range KindWord key row = text_fails (λ text. is_some (kind_of text)) key row
-is_out_of_range OtherName key row = option_map_or (λ first. option_map_or (bytes_eq first) (text_at key row) false) (text_at (codes "a") row) false
-is_out_of_range (Number low high) key row = integer_fails (is_between low high) key row
-is_out_of_range _ key row = false
+-- the row of the type whose component has a name: the first such type
+abbrev pub type_of_component : Data → List ℕ → Option Data
+type_of_component top text = find (λ row. is_named (instance_names row) text) (rows_of Types top)
+
+-- whether a type's role is sink
+abbrev pub is_sink_type : Data → Bool
+is_sink_type row = option_map_or (bytes_eq (codes "sink")) (text_at (codes "role") row) false
+
+-- whether a name is that of a component of role sink
+abbrev pub is_sink : Data → List ℕ → Bool
+is_sink top text = option_map_or is_sink_type (type_of_component top text) false
+
+-- a value out of its range: a number, a role or a kind, the name that the key `a` has, or a component that is no sink
+abbrev pub is_out_of_range : Data → Meaning → List ℕ → Data → Bool
+is_out_of_range top RoleWord key row = text_fails (λ text. is_some (role_of text)) key row
+is_out_of_range top KindWord key row = text_fails (λ text. is_some (kind_of text)) key row
+is_out_of_range top OtherName key row = option_map_or (λ first. option_map_or (bytes_eq first) (text_at key row) false) (text_at (codes "a") row) false
+is_out_of_range top SinkName key row = text_fails (is_sink top) key row
+is_out_of_range top (Number low high) key row = integer_fails (is_between low high) key row
+is_out_of_range top _ key row = false
 
 -- whether the value at a key isn't of the kind that its meaning asks for
 abbrev pub is_wrong_kind : Meaning → List ℕ → Data → Bool
@@ -184,6 +205,7 @@ abbrev pub is_unknown_name : Data → List (List ℕ) → Meaning → List ℕ �
 is_unknown_name top names TypeName key row = text_fails (is_named names) key row
 is_unknown_name top names OtherName key row = text_fails (is_named names) key row
 is_unknown_name top names ComponentName key row = text_fails (is_named (component_names top)) key row
+is_unknown_name top names SinkName key row = text_fails (is_named (component_names top)) key row
 is_unknown_name top names _ key row = false
 
 -- whether a key of a row of a document has a fault of a class, where the types have these names
@@ -192,5 +214,5 @@ is_faulty top names MissingKey row key = key.required && is_none (get key.name r
 is_faulty top names WrongKind row key = is_wrong_kind key.meaning key.name row
 is_faulty top names BadName row key = is_bad_name key.meaning key.name row
 is_faulty top names UnknownName row key = is_unknown_name top names key.meaning key.name row
-is_faulty top names Range row key = is_out_of_range key.meaning key.name row
+is_faulty top names Range row key = is_out_of_range top key.meaning key.name row
 is_faulty top names _ row key = false

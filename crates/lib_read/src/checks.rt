@@ -8,7 +8,7 @@ ghost use Rattle.std.specs.Option.{option_copied, option_map_or};
 ghost use Rattle.std.specs.Str.{bytes_eq};
 ghost use Rattle.arch_model.specs.Name as name;
 
-use crate::components::is_component;
+use crate::components::{is_component, is_sink};
 use crate::fault::LibClass;
 use crate::names::Names;
 use crate::schema::{Key, Meaning, kind_of, role_of};
@@ -73,7 +73,7 @@ fn is_unknown_name(key: &Key, row: &Value, names: &Names, top: &Value) -> bool
 {
     match (key.meaning, text_at(row, key.name)) {
         (Meaning::TypeName | Meaning::OtherName, Some(text)) => !names.has(text),
-        (Meaning::ComponentName, Some(text)) => !is_component(top, text),
+        (Meaning::ComponentName | Meaning::SinkName, Some(text)) => !is_component(top, text),
         _ => false,
     }
 }
@@ -99,10 +99,10 @@ fn are_equal(a: Option<&str>, b: Option<&str>) -> bool
     }
 }
 
-// Whether the key's value is a text that should be one of some words or another type's name, or a
-// number, and is out of its range.
-fn is_out_of_range(key: &Key, row: &Value) -> bool
-    ensures { result ≡ spec.is_out_of_range key.now.meaning key.now.name.now (view row.now) }
+// Whether the key's value is a text that should be one of some words, another type's name or a
+// sink's, or a number, and is out of its range.
+fn is_out_of_range(key: &Key, row: &Value, top: &Value) -> bool
+    ensures { result ≡ spec.is_out_of_range (view top.now) key.now.meaning key.now.name.now (view row.now) }
 {
     match key.meaning {
         Meaning::RoleWord => match text_at(row, key.name) {
@@ -114,6 +114,10 @@ fn is_out_of_range(key: &Key, row: &Value) -> bool
             None => false,
         },
         Meaning::OtherName => are_equal(text_at(row, "a"), text_at(row, key.name)),
+        Meaning::SinkName => match text_at(row, key.name) {
+            Some(text) => !is_sink(top, text),
+            None => false,
+        },
         Meaning::Number { low, high } => match integer_at(row, key.name) {
             Some(z) => !is_between(low, high, z),
             None => false,
@@ -141,7 +145,7 @@ pub(crate) fn is_faulty(class: LibClass, key: &Key, row: &Value, names: &Names, 
         LibClass::WrongKind => is_wrong_kind(key, row),
         LibClass::BadName => is_bad_name(key, row),
         LibClass::UnknownName => is_unknown_name(key, row, names, top),
-        LibClass::Range => is_out_of_range(key, row),
+        LibClass::Range => is_out_of_range(key, row, top),
         _ => false,
     }
 }

@@ -1,13 +1,14 @@
 // The names of components, as a document's types give them.
 ghost use Rattle.std.specs.Prelude.{codes, [], unwrap_or, ◌≡◌, ◌<◌, ◌++◌, map, position, length, string_bytes};
-ghost use Rattle.std.specs.Prelude.{IfOk, IfSome, OnOk};
+ghost use Rattle.std.specs.Prelude.{IfOk, IfSome, OnOk, option_map};
 ghost use Rattle.std.specs.List.{flat_map};
 ghost use Rattle.std.specs.Str.{bytes_eq};
 ghost use Rattle.toml.specs.View.{view};
 ghost use Rattle.lib_read.specs.Tree as tree;
 ghost use Rattle.lib_read.specs.Components as comps;
 ghost use Rattle.lib_read.specs.Inner.Building.{names_of_type};
-ghost use Rattle.lib_read.specs.Schema.{is_named};
+ghost use Rattle.lib_read.specs.Schema.{is_named, type_of_component};
+ghost use Rattle.lib_read.specs.Schema as spec;
 
 use crate::fault::TableName;
 use crate::rows::number_or;
@@ -36,17 +37,38 @@ fn is_instance(row: &Value, text: &str) -> bool
     }
 }
 
-// Whether a text is the name of a component, by the types' `max` as they are written.
-pub(crate) fn is_component(top: &Value, text: &str) -> bool
-    ensures { result ≡ is_named (comps.component_names (view top.now)) text.now }
+// The row of the type whose component has a name, by the types' `max` as they are written.
+fn type_of<'a>(top: &'a Value, text: &str) -> Option<&'a Value>
+    ensures { option_map (λ row. view row.now) result ≡ type_of_component (view top.now) text.now }
 {
     let rows = rows_of(top, TableName::Types);
     for row in rows {
         if is_instance(row, text) {
-            return true;
+            return Some(row);
         }
     }
-    false
+    None
+}
+
+// Whether a text is the name of a component.
+pub(crate) fn is_component(top: &Value, text: &str) -> bool
+    ensures { result ≡ is_named (comps.component_names (view top.now)) text.now }
+{
+    type_of(top, text).is_some()
+}
+
+// Whether a type's role is sink.
+fn is_sink_type(row: &Value) -> bool
+    ensures { result ≡ spec.is_sink_type (view row.now) }
+{
+    text_at(row, "role").is_some_and(|role| role == "sink")
+}
+
+// Whether a text is the name of a component of role sink.
+pub(crate) fn is_sink(top: &Value, text: &str) -> bool
+    ensures { result ≡ spec.is_sink (view top.now) text.now }
+{
+    type_of(top, text).is_some_and(is_sink_type)
 }
 
 // Appends the names of a type's instances.

@@ -25,10 +25,10 @@ pub enum LibClass {
     Duplicate,
     /// A type or a component is named that doesn't exist.
     UnknownName,
-    /// A number is out of its range, a role or kind isn't one of the words, or `exclusive` names
-    /// one type as both `a` and `b`.
+    /// A number is out of its range, a role or kind isn't one of the words, `exclusive` names one
+    /// type as both `a` and `b`, or a required component isn't of role sink.
     Range,
-    /// There are too many components, edges or patterns.
+    /// There are too many components, edges, patterns or requirements.
     TooMany,
 }
 

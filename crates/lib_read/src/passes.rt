@@ -151,7 +151,10 @@ pub(crate) fn class_fault<'a>(class: LibClass, top: &'a Value, names: &Names) ->
     if let Some(fault) = table_fault(class, TableName::Links, top, names) {
         return Some(fault);
     }
-    table_fault(class, TableName::Patterns, top, names)
+    if let Some(fault) = table_fault(class, TableName::Patterns, top, names) {
+        return Some(fault);
+    }
+    table_fault(class, TableName::Requires, top, names)
 }
 
 // Whether the document and its tables have no fault of a class.

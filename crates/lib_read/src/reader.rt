@@ -12,9 +12,9 @@ use crate::components::component_names;
 use crate::fault::{Fault, LibClass, LibError, LibFault, Stop, TableName};
 use crate::names::Names;
 use crate::passes::judge;
-use crate::rows::{link_rows, pattern_rows, type_rows};
+use crate::rows::{link_rows, pattern_rows, requirement_rows, type_rows};
 use crate::values::rows_of;
-use arch_model::limits::PATTERNS;
+use arch_model::limits::{PATTERNS, REQUIREMENTS};
 use arch_model::{KeyText, Library, Memory};
 use std::alloc::{AllocError, Global};
 use template::{expand, has_few_components, has_few_edges};
@@ -70,10 +70,14 @@ fn build<'a>(alloc: Global, top: &'a Value, names: &Names) -> Result<Library, St
     if rows_of(top, TableName::Patterns).len() > PATTERNS {
         return Err(Stop::Fault(whole_file(LibClass::TooMany, "pattern")));
     }
+    if rows_of(top, TableName::Requires).len() > REQUIREMENTS {
+        return Err(Stop::Fault(whole_file(LibClass::TooMany, "require")));
+    }
     let components = component_names(alloc, &types)?;
     let patterns = pattern_rows(alloc, top, names, &components)?;
+    let requirements = requirement_rows(alloc, top, &components)?;
     let template = expand(alloc, &types, &links)?;
-    Ok(Library::new(types, links, template, patterns, Vec::new(alloc)))
+    Ok(Library::new(types, links, template, patterns, requirements))
 }
 
 // The library of a document.

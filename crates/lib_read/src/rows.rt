@@ -13,7 +13,7 @@ use crate::fault::TableName;
 use crate::names::Names;
 use crate::schema::{Kind, role_of, row_kind};
 use crate::values::{integer_at, rows_of, text_at};
-use arch_model::{CompId, LinkRow, Memory, Name, Pattern, Role, TypeRow};
+use arch_model::{CompId, LinkRow, Memory, Name, Pattern, Requirement, Role, TypeRow};
 use std::alloc::Global;
 use toml::Value;
 
@@ -208,4 +208,32 @@ pub(crate) fn pattern_rows(
         }
     }
     Ok(patterns)
+}
+
+fn requirement_row(row: &Value, components: &[String]) -> Requirement
+    requires { length components.now ≤ 64 }
+    ensures { result ≡ rows.requirement_row (map string_bytes components.now) (view row.now) }
+{
+    Requirement {
+        sink: component_at(row, "sink", components),
+        bound: number_or(0, row, "bound"),
+    }
+}
+
+// The requirements of a document, whose components have these names.
+pub(crate) fn requirement_rows(
+    alloc: Global,
+    top: &Value,
+    components: &[String],
+) -> Result<Vec<Requirement>, Memory>
+    requires { length components.now ≤ 64 }
+    ensures { IfOk result (λ requirements.
+        requirements.items ≡ rows.requirements_by (map string_bytes components.now) (view top.now)) }
+{
+    let mut requirements = Vec::new(alloc);
+    let rows = rows_of(top, TableName::Requires);
+    for row in rows {
+        requirements.push(requirement_row(row, components))?;
+    }
+    Ok(requirements)
 }

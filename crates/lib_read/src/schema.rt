@@ -26,6 +26,8 @@ pub(crate) enum Meaning {
     OtherName,
     /// The name of a component.
     ComponentName,
+    /// The name of a component of role sink.
+    SinkName,
     /// An integer from `low` to `high`.
     Number { low: u64, high: u64 },
     /// Any text.
@@ -81,6 +83,12 @@ const TOTAL: Meaning = Meaning::Number {
     high: 1_000_000_000_000_000,
 };
 
+// A weight, in units of 10^-18.
+const WEIGHT: Meaning = Meaning::Number {
+    low: 0,
+    high: 1_000_000_000_000_000_000,
+};
+
 // A key that is required. A macro, since no static may call a function.
 macro_rules! needs {
     ($name:literal, $meaning:expr) => {
@@ -103,9 +111,10 @@ macro_rules! takes {
     };
 }
 
-static LIBRARY_KEYS: [Key; 3] = [
+static LIBRARY_KEYS: [Key; 4] = [
     takes!("link", Meaning::Rows),
     takes!("pattern", Meaning::Rows),
+    takes!("require", Meaning::Rows),
     takes!("type", Meaning::Rows),
 ];
 
@@ -195,6 +204,8 @@ static ANY_KEYS: [Key; 8] = [
     takes!("type", Meaning::Text),
 ];
 
+static REQUIRE_KEYS: [Key; 2] = [needs!("bound", WEIGHT), needs!("sink", Meaning::SinkName)];
+
 // The role that a text is.
 pub(crate) fn role_of(text: &str) -> Option<Role>
     ensures { result ≡ spec.role_of text.now }
@@ -276,6 +287,6 @@ pub(crate) fn table_keys(table: TableName, row: &Value) -> &'static [Key]
             Some(kind) => kind_keys(kind),
             None => &ANY_KEYS,
         },
-        TableName::Requires => &[],
+        TableName::Requires => &REQUIRE_KEYS,
     }
 }

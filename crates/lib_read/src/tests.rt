@@ -104,6 +104,7 @@ link = [{from = "a", to = "b"}]"#,
 pattern = [{kind = "count", type = "a", min = 512, max = 0}]"#,
         r#"type = [{name = "a", role = "sink"}, {name = "b", role = "sink"}]
 link = [{from = "a", to = "b"}, {from = "b", to = "a"}, {from = "a", to = "a"}]"#,
+        "require = []",
     ] {
         let read = reading(rt.alloc(), text.as_bytes())?;
         assert_eq!(rt; read.as_str(), "a library", "{text}");
@@ -137,7 +138,8 @@ fn faulty_files_are_refused(rt: HostRuntime) -> Result<(), Fail> {
         ("type = 1", "WrongKind Library 0 type"),
         ("type = [1]", "WrongKind Types 1 -"),
         ("type.a = 1", "WrongKind Library 0 type"),
-        ("require = []", "UnknownKey Library 0 require"),
+        ("require = 1", "WrongKind Library 0 require"),
+        ("require = [1]", "WrongKind Requires 1 -"),
         (
             r#"type = [{name = "a", role = "sink", zz = 1, "\u00e4" = 1, "" = 1}]"#,
             "UnknownKey Types 1 ",
@@ -269,6 +271,46 @@ pattern = [{kind = "count", type = "a", min = 513}]"#,
             r#"type = [{name = "a", role = "sink"}]
 pattern = [{kind = "count", type = "a", from = "a"}]"#,
             "UnknownKey Patterns 1 from",
+        ),
+        // requirements
+        (
+            r#"require = [{bound = 0, sink = "a.1", sum = 1}]"#,
+            "UnknownKey Requires 1 sum",
+        ),
+        ("require = [{bound = 0}]", "MissingKey Requires 1 sink"),
+        ("require = [{}]", "MissingKey Requires 1 bound"),
+        (
+            r#"require = [{bound = 0, sink = 1}]"#,
+            "WrongKind Requires 1 sink",
+        ),
+        (
+            r#"require = [{bound = "0", sink = "a.1"}]"#,
+            "WrongKind Requires 1 bound",
+        ),
+        (
+            r#"type = [{name = "a", role = "sink"}]
+require = [{bound = 0, sink = "a.1"}, {bound = -1, sink = "a.2"}]"#,
+            "UnknownName Requires 2 sink",
+        ),
+        (
+            r#"type = [{name = "a", role = "sink"}]
+require = [{bound = 0, sink = "a"}]"#,
+            "UnknownName Requires 1 sink",
+        ),
+        (
+            r#"type = [{name = "a", role = "sink"}, {name = "b", role = "source"}]
+require = [{bound = 0, sink = "a.1"}, {bound = 0, sink = "b.1"}]"#,
+            "Range Requires 2 sink",
+        ),
+        (
+            r#"type = [{name = "b", role = "middle", max = 2}]
+require = [{bound = -1, sink = "b.2"}]"#,
+            "Range Requires 1 bound",
+        ),
+        (
+            r#"type = [{name = "a", role = "sink"}]
+require = [{bound = 1000000000000000001, sink = "a.1"}]"#,
+            "Range Requires 1 bound",
         ),
         // 65 components, 513 edges
         (
@@ -567,6 +609,7 @@ const FAULTY: &str = r#"type = [
   {name = "a", role = "end", zz = 1, aa = 1},
 ]
 link = [{from = "a", to = "c", y = 1}, {from = "a"}, {from = "a", to = "c"}]
+require = [{sink = "c.1", bound = 0, z = 1}, {sink = "a.1"}, {sink = "e.1", bound = "0"}]
 pattern = [
   {kind = "count", type = "d", min = 600, x = 1},
 "#;
@@ -589,12 +632,23 @@ fn faults_come_by_class_then_table_then_place_then_key(rt: HostRuntime) -> Resul
         ("UnknownKey Types 3 zz", ", zz = 1", ""),
         ("UnknownKey Links 1 y", ", y = 1", ""),
         ("UnknownKey Patterns 1 x", ", x = 1", ""),
+        ("UnknownKey Requires 1 z", ", z = 1", ""),
         (
             "MissingKey Links 2 to",
             r#"{from = "a"}"#,
             r#"{from = "c", to = "a"}"#,
         ),
+        (
+            "MissingKey Requires 2 bound",
+            r#"{sink = "a.1"}"#,
+            r#"{sink = "a.1", bound = 1000000000000000001}"#,
+        ),
         ("WrongKind Types 1 supply", "supply = 0.5", "supply = 5"),
+        (
+            "WrongKind Requires 3 bound",
+            r#"bound = "0""#,
+            "bound = 1000000000000000000",
+        ),
         ("BadName Types 2 name", r#""B""#, r#""b""#),
         (
             "Duplicate Types 3 name",
@@ -605,10 +659,13 @@ fn faults_come_by_class_then_table_then_place_then_key(rt: HostRuntime) -> Resul
         ("UnknownName Links 1 to", r#"to = "c""#, r#"to = "b""#),
         ("UnknownName Links 2 from", r#"from = "c""#, r#"from = "b""#),
         ("UnknownName Patterns 1 type", r#""d""#, r#""e""#),
+        ("UnknownName Requires 1 sink", r#""c.1""#, r#""e.1""#),
         ("Range Types 1 cost", "cost = -1", "cost = 1"),
         ("Range Types 1 max", "max = 65", "max = 31"),
         ("Range Types 3 role", r#""end""#, r#""sink""#),
         ("Range Patterns 1 min", "min = 600", "min = 0"),
+        ("Range Requires 2 bound", "1000000000000000001", "0"),
+        ("Range Requires 2 sink", r#""a.1""#, r#""e.1""#),
         ("TooMany Library 0 type", "max = 60", "max = 32"),
         ("TooMany Library 0 link", "max = 31", "max = 8"),
         (
@@ -644,33 +701,47 @@ fn an_unknown_key_comes_before_a_repeated_link(rt: HostRuntime) -> Result<(), Fa
     Ok(())
 }
 
-// A library with a type and some patterns.
-fn with_patterns(alloc: Global, n: u32) -> Result<String, Fail> {
-    let mut text = String::from_str(
-        alloc,
-        r#"[[type]]
+const ONE_SINK: &str = r#"[[type]]
 name = "a"
 role = "sink"
-"#,
-    )?;
-    for _ in 0..n {
-        text.push_str(
-            r#"[[pattern]]
-kind = "count"
-type = "a"
-"#,
-        )?;
-    }
-    Ok(text)
-}
+"#;
 
 #[test]
-fn at_most_200_patterns_are_read(rt: HostRuntime) -> Result<(), Fail> {
-    for (n, said) in [(200, "a library"), (201, "TooMany Library 0 pattern")] {
-        let text = with_patterns(rt.alloc(), n)?;
+fn at_most_200_patterns_and_16_requirements_are_read(rt: HostRuntime) -> Result<(), Fail> {
+    let pattern = "[[pattern]]\nkind = \"count\"\ntype = \"a\"\n";
+    let requirement = "[[require]]\nsink = \"a.1\"\nbound = 0\n";
+    for (patterns, requirements, said) in [
+        (200, 16, "a library"),
+        (200, 17, "TooMany Library 0 require"),
+        (201, 17, "TooMany Library 0 pattern"),
+    ] {
+        let patterns = pattern.repeat(rt.alloc(), patterns)?;
+        let requirements = requirement.repeat(rt.alloc(), requirements)?;
+        let text = format!(in rt.alloc(); "{ONE_SINK}{requirements}{patterns}")?;
         let read = reading(rt.alloc(), text.as_bytes())?;
         assert_eq!(rt; read.as_str(), said);
     }
+    Ok(())
+}
+
+#[test]
+fn requirements_are_read_in_order(rt: HostRuntime) -> Result<(), Fail> {
+    let text =
+        r#"type = [{name = "s", role = "source", max = 2}, {name = "t", role = "sink", max = 2}]
+require = [
+  {sink = "t.2", bound = 1000000000000000000},
+  {sink = "t.1", bound = 7},
+  {sink = "t.2", bound = 0},
+]"#;
+    let library = read_library(rt.alloc(), text.as_bytes())?;
+    let read = library.requirements();
+    assert_eq!(rt; read.len(), 3);
+    assert_eq!(rt;
+        (read[0].sink.0, read[0].bound),
+        (3, 1_000_000_000_000_000_000)
+    );
+    assert_eq!(rt; (read[1].sink.0, read[1].bound), (2, 7));
+    assert_eq!(rt; (read[2].sink.0, read[2].bound), (3, 0));
     Ok(())
 }
 

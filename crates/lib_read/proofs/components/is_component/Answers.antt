@@ -1,11 +1,13 @@
-use Rattle.std.proofs.Common.{ap, ◌∙◌}
+use Rattle.std.proofs.Common.{is_some, ap, ◌∙◌}
 use Rattle.toml.specs.View.{view}
-use Rattle.lib_read.specs.Components.{instance_names, component_names}
-use Rattle.lib_read.specs.Schema.{is_named}
-use Rattle.lib_read.proofs.ComponentLemmas.{named_here}
+use Rattle.lib_read.specs.declared.fault.TableName.TheVariants.{Types}
+use Rattle.lib_read.specs.Tree.{rows_of}
+use Rattle.lib_read.proofs.ComponentLemmas.{owned_or_not, still_some}
 use Rattle.lib_read.proofs.components.is_component.Goals as goal
 
-pub returns-then-is_instance : goal.returns-then-is_instance
-returns-then-is_instance c =
-    named_here c.args.text.now c.rows_of-rows.result.now c.loop-row.row-index c.row-item.result (is_named (component_names (view c.args.top.now)) c.args.text.now) c.loop-row-test.true
-    (c.if-is_instance.ensures ∙ ap (λ v. is_named (instance_names (view v)) c.args.text.now) c.row-item.is) c.loop-row.invariant
+pub returns : goal.returns
+returns c =
+    c.is_some.ensures
+    ∙ still_some (λ row. view row.now) c.type_of.result
+    ∙ ap is_some c.type_of.ensures
+    ∙ owned_or_not c.args.text.now (rows_of Types (view c.args.top.now))
