@@ -1,37 +1,24 @@
 -- What a run of `solve` says, from what is said of all runs.
-use Rattle.std.proofs.Common.{◌≡◌, ◌≢◌, ℕ, Option, Some, None, List, [], ◌∷◌, ◌++◌, Ok, Err, IsErr, Result, IfSome, refl, sym, ap, subst, ◌∙◌, arith, inl, inr, ◌⊎◌}
-use Rattle.std.specs.Prelude.{MatchResult, Contains}
+use Rattle.std.proofs.Common.{◌≡◌, ◌≢◌, ℕ, zero, suc, ◌<◌, true, false, Option, Some, None, List, [], ◌∷◌, ◌++◌, Ok, Err, IsErr, Result, IfSome, refl, sym, ap, subst, ◌∙◌, arith, inl, inr, ◌⊎◌}
+use Rattle.std.specs.Prelude.{MatchResult, Contains, slice_index_or}
+use Rattle.std.proofs.lemmas.List.Elements.{Contains-append_left, Contains-append_right}
 use Rattle.arch_model.specs.Parts.{LibraryParts}
 use Rattle.outside.specs.Faults.{Rose, Stay, ChangesOnly}
 use Rattle.outside.specs.Told.{Appends}
 use Rattle.lib_read.specs.LibraryOf.{library_of}
 use Rattle.lib_read.specs.declared.fault.LibFault.{LibFault}
 use Rattle.archex_app.specs.declared.status.Status.{Status}
-use Rattle.archex_app.specs.Status.{Ending, IsStatus, number_of, status_of, done, infeasible, node_limit, library_refused, words_refused, read_fault, write_fault, no_memory, log_refused, architecture_refused}
+use Rattle.archex_app.specs.Status.{Ending, number_of, status_of, done, infeasible, library_refused, words_refused, read_fault, write_fault, no_memory}
+use Rattle.archex_app.specs.Endings.{endings_of, MayEnd}
 use Rattle.archex_app.specs.Due.{Due, ends, unread, IsSettled}
-use Rattle.archex_app.specs.Words.{Asked, solve, command_of, AskToSolve, RefusesWords, refused_words_text, files_of, files_read, files_written}
+use Rattle.archex_app.specs.Words.{Asked, solve, refused_words_text, files_of, files_read, files_written}
 use Rattle.archex_app.specs.Refusal.{refused_library_text}
 use Rattle.archex_app.specs.Answer.{ShowsCheapest, ShowsInfeasible, ShowsRefusal, ShowsAnswer, Prints, PrintsFront}
 use Rattle.archex_app.specs.ComesTo.{ComesTo, SolveComesTo, EndsWith}
 use Rattle.archex_app.specs.Complete.{Solves, Completes}
-use Rattle.archex_app.specs.Run.{Seen, EndsAsDue, FailsToRead, FailsToWrite, WantsMemory, Runs}
-use Rattle.archex_app.proofs.RunLaws.{Ended, apart, not_faults}
-
--- the parts of what is due
-same_ending : {e e' : Ending} {f f' : List (List ℕ × List ℕ)} {t t' : List ℕ} → ends e f t ≡ ends e' f' t' → e ≡ e'
-same_ending h = cc
-
-same_files : {e e' : Ending} {f f' : List (List ℕ × List ℕ)} {t t' : List ℕ} → ends e f t ≡ ends e' f' t' → f ≡ f'
-same_files h = cc
-
-same_text : {e e' : Ending} {f f' : List (List ℕ × List ℕ)} {t t' : List ℕ} → ends e f t ≡ ends e' f' t' → t ≡ t'
-same_text h = cc
-
-same_name : {m n : List ℕ} → unread m ≡ unread n → m ≡ n
-same_name h = cc
-
-no_read : {n : List ℕ} {e : Ending} {f : List (List ℕ × List ℕ)} {t : List ℕ} → unread n ≡ ends e f t → ⊥
-no_read h = cc
+use Rattle.archex_app.specs.Run.{Seen, names_of, RoseAmong, PrintsFrontOf, EndsAsDue, FailsToRead, FailsAtFile, FailsAtText, FailsToWrite, WantsMemory, Runs}
+use Rattle.archex_app.proofs.RunLaws.{Ended, apart, not_faults, runs_as}
+use Rattle.archex_app.proofs.Within.{same_ending, same_files, same_text, no_read, command_within, words_read, words_written}
 
 -- which of the four ways a status is
 as_due : (Comes : Due → Type 0) (status : Status) (before now : Seen) (n : ℕ) → Ended Comes status before now → status ≡ record { 0 = n } → n ≢ 5 → n ≢ 6 → n ≢ 7 → EndsAsDue Comes status before now
@@ -61,6 +48,22 @@ as_write Comes status before now ended is = elim ended [
   ]
 ]
 
+as_memory : (Comes : Due → Type 0) (status : Status) (before now : Seen) → Ended Comes status before now → status ≡ record { 0 = 7 } → WantsMemory Comes status before now
+as_memory Comes status before now ended is = elim ended [
+  | inl w ↦ absurd (apart status (number_of w.ending) 7 w.ended_so is (not_faults w.ending w.settled).2)
+  | inr faults ↦ elim faults [
+    | inl w ↦ absurd (apart status 5 7 w.ended_so is (λ e. omega arith))
+    | inr more ↦ elim more [ inl w ↦ absurd (apart status 6 7 w.ended_so is (λ e. omega arith)) | inr memory ↦ memory ]
+  ]
+]
+
+only_at : (x y : List ℕ) (k : ℕ) → k < 1 → slice_index_or (x ∷ []) k y ≡ y → y ≡ x
+only_at x y zero within is = sym is
+only_at x y (suc k) within is = absurd (omega arith)
+
+only_one : (x y : List ℕ) → Contains (x ∷ []) y → y ≡ x
+only_one x y has = only_at x y has.0 has.1 has.2
+
 -- what `solve` ends as
 abbrev SolveShows : Ending → List (List ℕ × List ℕ) → List ℕ → List ℕ → Type 0
 SolveShows ending files bytes text =
@@ -79,25 +82,8 @@ solve_shows : (told : List ℕ → Option (List ℕ)) (name : List ℕ) (ending 
     → (bytes : List ℕ) × IfSome (told name) (λ all. bytes ≡ all) × SolveShows ending files bytes text
 solve_shows told name ending files text comes = elim comes [ inl read ↦ absurd (no_read (sym read)) | inr w ↦ (w.0, w.1, bytes_show w.0 ending files text (library_of w.0) refl w.2) ]
 
-bytes_read : (n : List ℕ) (answer : Result LibraryParts LibFault) → MatchResult answer (λ lib. SolveComesTo lib (unread n)) (λ fault. EndsWith library_refused (refused_library_text fault) (unread n)) → ⊥
-bytes_read n (Ok lib) job = elim job [ inl best ↦ no_read best.2 | inr none ↦ no_read none.1 ]
-bytes_read n (Err fault) refused = no_read refused
-
 solve_reads : (told : List ℕ → Option (List ℕ)) (name n : List ℕ) → ComesTo told (Ok (solve name)) (unread n) → n ≡ name
-solve_reads told name n comes = elim comes [ inl read ↦ same_name read | inr w ↦ absurd (bytes_read n (library_of w.0) w.2) ]
-
--- no command writes a file
-no_files : (told : List ℕ → Option (List ℕ)) (command : Result Asked ℕ) (ending : Ending) (files : List (List ℕ × List ℕ)) (text : List ℕ) → ComesTo told command (ends ending files text) → files ≡ []
-no_files told (Ok (solve name)) ending files text comes =
-    elim (solve_shows told name ending files text comes).2 [ inl w ↦ w.2 | inr rest ↦ elim rest [ inl w ↦ w.2 | inr w ↦ w.2 ] ]
-no_files told (Err place) ending files text comes = same_files comes
-
-none_written : (command : Result Asked ℕ) → files_of files_written command ≡ []
-none_written (Ok (solve name)) = refl
-none_written (Err place) = refl
-
-nothing_in : {X : Type 0} (xs : List X) (x : X) → xs ≡ [] → Contains xs x → ⊥
-nothing_in {X = X} xs x none has = let P : List X → Type 0 = λ l. Contains l x in let it : Contains [] x = subst P none has in absurd (omega (arith, it.1))
+solve_reads told name n comes = only_one name n (words_read told (Ok (solve name)) n comes)
 
 -- the run of words that ask to solve a library
 pub solve_run : (command : Result Asked ℕ) (name : List ℕ) (status : Status) (before now : Seen) → command ≡ Ok (solve name) → Runs command status before now → Runs (Ok (solve name)) status before now
@@ -105,7 +91,7 @@ solve_run command name status before now asked run = let P : Result Asked ℕ �
 
 pub optimal : (name : List ℕ) (status : Status) (before now : Seen) → Runs (Ok (solve name)) status before now → status ≡ status_of done → Prints ShowsCheapest (before.told name) before.printed now.printed
 optimal name status before now run is =
-    let due : EndsAsDue (ComesTo before.told (Ok (solve name))) status before now = as_due _ status before now 0 run.ended is (λ e. omega arith) (λ e. omega arith) (λ e. omega arith) in
+    let due : EndsAsDue (ComesTo before.told (Ok (solve name))) status before now = as_due _ status before now 0 run.goes.ended is (λ e. omega arith) (λ e. omega arith) (λ e. omega arith) in
     let found = solve_shows before.told name due.ending due.files due.text due.due in
     elim found.2 [
       | inl w ↦ record { bytes = found.0; read = found.1; text = due.text; shows = w.1; printed = due.printed }
@@ -117,7 +103,7 @@ optimal name status before now run is =
 
 pub none_meets : (name : List ℕ) (status : Status) (before now : Seen) → Runs (Ok (solve name)) status before now → status ≡ status_of infeasible → Prints ShowsInfeasible (before.told name) before.printed now.printed
 none_meets name status before now run is =
-    let due : EndsAsDue (ComesTo before.told (Ok (solve name))) status before now = as_due _ status before now 1 run.ended is (λ e. omega arith) (λ e. omega arith) (λ e. omega arith) in
+    let due : EndsAsDue (ComesTo before.told (Ok (solve name))) status before now = as_due _ status before now 1 run.goes.ended is (λ e. omega arith) (λ e. omega arith) (λ e. omega arith) in
     let found = solve_shows before.told name due.ending due.files due.text due.due in
     elim found.2 [
       | inl w ↦ absurd (apart status 1 0 is (due.ended_so ∙ ap status_of w.0) (λ e. omega arith))
@@ -129,7 +115,7 @@ none_meets name status before now run is =
 
 pub refused_library : (name : List ℕ) (status : Status) (before now : Seen) → Runs (Ok (solve name)) status before now → status ≡ status_of library_refused → Prints ShowsRefusal (before.told name) before.printed now.printed
 refused_library name status before now run is =
-    let due : EndsAsDue (ComesTo before.told (Ok (solve name))) status before now = as_due _ status before now 3 run.ended is (λ e. omega arith) (λ e. omega arith) (λ e. omega arith) in
+    let due : EndsAsDue (ComesTo before.told (Ok (solve name))) status before now = as_due _ status before now 3 run.goes.ended is (λ e. omega arith) (λ e. omega arith) (λ e. omega arith) in
     let found = solve_shows before.told name due.ending due.files due.text due.due in
     elim found.2 [
       | inl w ↦ absurd (apart status 3 0 is (due.ended_so ∙ ap status_of w.0) (λ e. omega arith))
@@ -141,90 +127,112 @@ refused_library name status before now run is =
 
 pub read_rose : (name : List ℕ) (status : Status) (before now : Seen) → Runs (Ok (solve name)) status before now → status ≡ status_of read_fault → Rose (before.reads name) (now.reads name)
 read_rose name status before now run is =
-    let read : FailsToRead (ComesTo before.told (Ok (solve name))) status before now = as_read _ status before now run.ended is in
+    let read : FailsToRead (ComesTo before.told (Ok (solve name))) status before now = as_read _ status before now run.goes.ended is in
     let P : List ℕ → Type 0 = λ n. Rose (before.reads n) (now.reads n) in
     subst P (solve_reads before.told name read.name read.due) read.rose
 
 shows_answer : (ending : Ending) (files : List (List ℕ × List ℕ)) (bytes text : List ℕ) → SolveShows ending files bytes text → ShowsAnswer bytes text
 shows_answer ending files bytes text shows = elim shows [ inl w ↦ inl w.1 | inr rest ↦ elim rest [ inl w ↦ inr (inl w.1) | inr w ↦ inr (inr w.1) ] ]
 
+nothing_in : (files : List (List ℕ × List ℕ)) (name : List ℕ) → files ≡ [] → Contains (names_of files) name → ⊥
+nothing_in files name none has =
+    let P : List (List ℕ × List ℕ) → Type 0 = λ l. Contains (names_of l) name in
+    let it : Contains (names_of []) name = subst P none has in
+    absurd (omega (arith, it.1))
+
+no_files : (ending : Ending) (files : List (List ℕ × List ℕ)) (bytes text : List ℕ) → SolveShows ending files bytes text → files ≡ []
+no_files ending files bytes text shows = elim shows [ inl w ↦ w.2 | inr rest ↦ elim rest [ inl w ↦ w.2 | inr w ↦ w.2 ] ]
+
 -- a write that failed was the text's
-cut_text : (command : Result Asked ℕ) (status : Status) (before now : Seen) (w : FailsToWrite (ComesTo before.told command) status before now)
-    → Rose before.prints now.prints × ((front : List ℕ) × (rest : List ℕ) × (w.text ≡ front ++ rest) × Appends before.printed now.printed front)
-cut_text command status before now w = elim w.cause [
-  | inl file ↦ absurd (nothing_in w.files file.0 (no_files before.told command w.ending w.files w.text w.due) file.1)
-  | inr text ↦ (text.0, text.1)
-]
+cut_text : (files : List (List ℕ × List ℕ)) (text : List ℕ) (before now : Seen) → files ≡ [] → FailsAtFile files before now ⊎ FailsAtText files text before now → PrintsFrontOf text before now
+cut_text files text before now none cause = elim cause [ inl w ↦ absurd (nothing_in files w.name none w.due) | inr w ↦ w.printed ]
 
 pub cut : (name : List ℕ) (status : Status) (before now : Seen) → Runs (Ok (solve name)) status before now → status ≡ status_of write_fault → PrintsFront ShowsAnswer (before.told name) before.printed now.printed
 cut name status before now run is =
-    let w : FailsToWrite (ComesTo before.told (Ok (solve name))) status before now = as_write _ status before now run.ended is in
+    let w : FailsToWrite (ComesTo before.told (Ok (solve name))) status before now = as_write _ status before now run.goes.ended is in
     let found = solve_shows before.told name w.ending w.files w.text w.due in
-    let part = (cut_text (Ok (solve name)) status before now w).1 in
+    let part = cut_text w.files w.text before now (no_files w.ending w.files found.0 w.text found.2) w.cause in
     let P : List ℕ → Type 0 = ShowsAnswer found.0 in
     record { bytes = found.0; read = found.1; front = part.0; rest = part.1; shows = subst P part.2 (shows_answer w.ending w.files found.0 w.text found.2); printed = part.3 }
 
-pub print_rose : (command : Result Asked ℕ) (status : Status) (before now : Seen) → Runs command status before now → status ≡ status_of write_fault → Rose before.prints now.prints
-print_rose command status before now run is = (cut_text command status before now (as_write _ status before now run.ended is)).0
+-- which faults rose
+pub read_among : (command : Result Asked ℕ) (status : Status) (before now : Seen) → Runs command status before now → status ≡ status_of read_fault → RoseAmong (files_of files_read command) before.reads now.reads
+read_among command status before now run is =
+    let read : FailsToRead (ComesTo before.told command) status before now = as_read _ status before now run.goes.ended is in
+    (read.name, words_read before.told command read.name read.due, read.rose)
 
-pub read_prints_nothing : (command : Result Asked ℕ) (status : Status) (before now : Seen) → Runs command status before now → status ≡ status_of read_fault → now.printed ≡ before.printed
-read_prints_nothing command status before now run is =
-    let read : FailsToRead (ComesTo before.told command) status before now = as_read _ status before now run.ended is in
-    read.leaves.printed
-
--- the statuses of what may be due
-due_status : (told : List ℕ → Option (List ℕ)) (command : Result Asked ℕ) (ending : Ending) (files : List (List ℕ × List ℕ)) (text : List ℕ) → ComesTo told command (ends ending files text) → IsStatus (status_of ending)
-due_status told (Ok (solve name)) ending files text comes =
-    let P : Ending → Type 0 = λ e. IsStatus (status_of e) in
-    elim (solve_shows told name ending files text comes).2 [
-      | inl w ↦ subst P (sym w.0) (0, omega arith, refl)
-      | inr rest ↦ elim rest [ inl w ↦ subst P (sym w.0) (1, omega arith, refl) | inr w ↦ subst P (sym w.0) (2, omega arith, refl) ]
+pub write_rose : (command : Result Asked ℕ) (status : Status) (before now : Seen) → Runs command status before now → status ≡ status_of write_fault → Rose before.prints now.prints ⊎ RoseAmong (files_of files_written command) before.writes now.writes
+write_rose command status before now run is =
+    let write : FailsToWrite (ComesTo before.told command) status before now = as_write _ status before now run.goes.ended is in
+    elim write.cause [
+      | inl w ↦ inr (w.name, words_written before.told command write.ending write.files write.text w.name write.due w.due, w.rose)
+      | inr w ↦ inl w.rose
     ]
-due_status told (Err place) ending files text comes = let P : Ending → Type 0 = λ e. IsStatus (status_of e) in subst P (sym (same_ending comes)) (3, omega arith, refl)
 
-pub is_status : (command : Result Asked ℕ) (status : Status) (before now : Seen) → Runs command status before now → IsStatus status
-is_status command status before now run = elim run.ended [
-  | inl w ↦ subst IsStatus (sym w.ended_so) (due_status before.told command w.ending w.files w.text w.due)
+print_rose : (name : List ℕ) (status : Status) (before now : Seen) → Runs (Ok (solve name)) status before now → status ≡ status_of write_fault → Rose before.prints now.prints
+print_rose name status before now run is = elim (write_rose (Ok (solve name)) status before now run is) [ inl rose ↦ rose | inr w ↦ absurd (omega (arith, w.1.1)) ]
+
+pub prints_nothing : (command : Result Asked ℕ) (status : Status) (before now : Seen) → Runs command status before now → (status ≡ status_of read_fault) ⊎ (status ≡ status_of no_memory) → now.printed ≡ before.printed
+prints_nothing command status before now run is = elim is [
+  | inl five ↦ let read : FailsToRead (ComesTo before.told command) status before now = as_read _ status before now run.goes.ended five in read.printed
+  | inr seven ↦ let wants : WantsMemory (ComesTo before.told command) status before now = as_memory _ status before now run.goes.ended seven in wants.printed
+]
+
+-- with which status
+pub may_end : (command : Result Asked ℕ) (status : Status) (before now : Seen) → Runs command status before now → MayEnd command status
+may_end (Ok asked) status before now run = elim run.goes.ended [
+  | inl w ↦ (w.ending, Contains-append_left (endings_of asked) _ w.ending ((command_within before.told asked).ending w.ending w.files w.text w.due), w.ended_so)
   | inr faults ↦ elim faults [
-    | inl w ↦ subst IsStatus (sym w.ended_so) (4, omega arith, refl)
-    | inr more ↦ elim more [ inl w ↦ subst IsStatus (sym w.ended_so) (5, omega arith, refl) | inr w ↦ subst IsStatus (sym w.ended_so) (6, omega arith, refl) ]
+    | inl w ↦ (read_fault, Contains-append_right (endings_of asked) _ read_fault (0, omega arith, refl), w.ended_so)
+    | inr more ↦ elim more [
+      | inl w ↦ (write_fault, Contains-append_right (endings_of asked) _ write_fault (1, omega arith, refl), w.ended_so)
+      | inr w ↦ (no_memory, Contains-append_right (endings_of asked) _ no_memory (2, omega arith, refl), w.ended_so)
+    ]
+  ]
+]
+may_end (Err place) status before now run = elim run.goes.ended [
+  | inl w ↦ (words_refused, (0, omega arith, refl), w.ended_so ∙ ap status_of (same_ending w.due))
+  | inr faults ↦ elim faults [
+    | inl w ↦ absurd (no_read w.due)
+    | inr more ↦ elim more [ inl w ↦ (write_fault, (1, omega arith, refl), w.ended_so) | inr w ↦ absurd (run.refuses refl w.ended_so) ]
   ]
 ]
 
 -- words that are refused
-refused_at : (told : List ℕ → Option (List ℕ)) (command : Result Asked ℕ) (ending : Ending) (files : List (List ℕ × List ℕ)) (text : List ℕ) → ComesTo told command (ends ending files text) → number_of ending ≡ 4
-    → (place : ℕ) × (command ≡ Err place) × (text ≡ refused_words_text place)
-refused_at told (Ok (solve name)) ending files text comes is =
-    elim (solve_shows told name ending files text comes).2 [
-      | inl w ↦ absurd (omega (arith, ap number_of w.0))
-      | inr rest ↦ elim rest [ inl w ↦ absurd (omega (arith, ap number_of w.0)) | inr w ↦ absurd (omega (arith, ap number_of w.0)) ]
-    ]
-refused_at told (Err place) ending files text comes is = (place, refl, same_text comes)
+pub refused_first : (command : Result Asked ℕ) (status : Status) (before now : Seen) → Runs command status before now → IsErr command → (status ≡ status_of words_refused) ⊎ (status ≡ status_of write_fault)
+refused_first (Ok asked) status before now run err = let e : false ≡ true = err in cc
+refused_first (Err place) status before now run err = elim run.goes.ended [
+  | inl w ↦ inl (w.ended_so ∙ ap status_of (same_ending w.due))
+  | inr faults ↦ elim faults [
+    | inl w ↦ absurd (no_read w.due)
+    | inr more ↦ elim more [ inl w ↦ inr w.ended_so | inr w ↦ absurd (run.refuses refl w.ended_so) ]
+  ]
+]
 
-pub refused : (words : List (List ℕ)) (status : Status) (before now : Seen) → Runs (command_of words) status before now → status ≡ status_of words_refused → (text : List ℕ) × RefusesWords words text × Appends before.printed now.printed text
-refused words status before now run is =
-    let due : EndsAsDue (ComesTo before.told (command_of words)) status before now = as_due _ status before now 4 run.ended is (λ e. omega arith) (λ e. omega arith) (λ e. omega arith) in
-    let four : number_of due.ending ≡ 4 = ap (λ (s : Status). s.0) (sym due.ended_so ∙ is) in
-    (due.text, refused_at before.told (command_of words) due.ending due.files due.text due.due four, due.printed)
+pub refused : (command : Result Asked ℕ) (place : ℕ) (status : Status) (before now : Seen) → command ≡ Err place → Runs command status before now → status ≡ status_of words_refused → Appends before.printed now.printed (refused_words_text place)
+refused command place status before now is run four =
+    let due : EndsAsDue (ComesTo before.told (Err place)) status before now = as_due _ status before now 4 (runs_as (Err place) command status before now (sym is) run).goes.ended four (λ e. omega arith) (λ e. omega arith) (λ e. omega arith) in
+    let P : List ℕ → Type 0 = Appends before.printed now.printed in
+    subst P (same_text due.due) due.printed
 
 -- counts, and what is told
 pub reads_stay : (command : Result Asked ℕ) (status : Status) (before now : Seen) → Runs command status before now → (status ≡ status_of read_fault → ⊥) → Stay before.reads now.reads
-reads_stay command status before now run calm = elim run.ended [
+reads_stay command status before now run calm = elim run.goes.ended [
   | inl w ↦ w.calm.reads
   | inr faults ↦ elim faults [ inl w ↦ absurd (calm w.ended_so) | inr more ↦ elim more [ inl w ↦ w.reads | inr w ↦ w.calm.reads ] ]
 ]
 
 pub prints_stay : (command : Result Asked ℕ) (status : Status) (before now : Seen) → Runs command status before now → (status ≡ status_of write_fault → ⊥) → now.prints ≡ before.prints
-prints_stay command status before now run calm = elim run.ended [
+prints_stay command status before now run calm = elim run.goes.ended [
   | inl w ↦ w.calm.prints
   | inr faults ↦ elim faults [ inl w ↦ w.prints | inr more ↦ elim more [ inl w ↦ absurd (calm w.ended_so) | inr w ↦ w.calm.prints ] ]
 ]
 
-pub writes_stay : (command : Result Asked ℕ) (status : Status) (before now : Seen) → Runs command status before now → Stay before.writes now.writes
-writes_stay command status before now run other = elim (run.writes_alone other) [ inl same ↦ same | inr w ↦ absurd (nothing_in (files_of files_written command) w.0 (none_written command) w.1) ]
-
-pub told_stays : (command : Result Asked ℕ) (status : Status) (before now : Seen) → Runs command status before now → (name : List ℕ) → now.told name ≡ before.told name
-told_stays command status before now run name = run.kept name (λ has. nothing_in (files_of files_written command) name (none_written command) has)
+pub writes_stay : (command : Result Asked ℕ) (status : Status) (before now : Seen) → Runs command status before now → (status ≡ status_of write_fault → ⊥) → Stay before.writes now.writes
+writes_stay command status before now run calm = elim run.goes.ended [
+  | inl w ↦ w.calm.writes
+  | inr faults ↦ elim faults [ inl w ↦ w.writes | inr more ↦ elim more [ inl w ↦ absurd (calm w.ended_so) | inr w ↦ w.calm.writes ] ]
+]
 
 -- which status always comes
 abbrev Completed : Result LibraryParts LibFault → Status → Type 0
@@ -254,7 +262,7 @@ shown_completes bytes text ending files status is shows =
     ]
 
 pub completes : (name bytes : List ℕ) (status : Status) (before now : Seen) → Runs (Ok (solve name)) status before now → before.told name ≡ Some bytes → (Rose (before.reads name) (now.reads name) → ⊥) → (Rose before.prints now.prints → ⊥) → Completes bytes status
-completes name bytes status before now run tells reads prints = elim run.ended [
+completes name bytes status before now run tells reads prints = elim run.goes.ended [
   | inl w ↦
       let found = solve_shows before.told name w.ending w.files w.text w.due in
       let F : Option (List ℕ) → Type 0 = λ o. IfSome o (λ all. found.0 ≡ all) in
@@ -264,7 +272,7 @@ completes name bytes status before now run tells reads prints = elim run.ended [
   | inr faults ↦ elim faults [
     | inl w ↦ absurd (reads (read_rose name status before now run w.ended_so))
     | inr more ↦ elim more [
-      | inl w ↦ absurd (prints (print_rose (Ok (solve name)) status before now run w.ended_so))
+      | inl w ↦ absurd (prints (print_rose name status before now run w.ended_so))
       | inr w ↦ without_memory (library_of bytes) status w.ended_so
     ]
   ]

@@ -1,8 +1,8 @@
 pub mod Pieces
-pub mod WordLaws
 pub mod AnyLaws
 pub mod SearchLaws
 pub mod Unrequired
+pub mod Within
 pub mod RunLaws
 pub mod Coming
 pub mod Headline

@@ -1,8 +1,9 @@
 -- From what came of a command's reads and its job to a run, for all commands.
-use Rattle.std.proofs.Common.{◌≡◌, ◌≢◌, ℕ, ◌<◌, ◌≤◌, true, false, nat_lt, Option, Some, None, List, [], ◌∷◌, ◌++◌, take, length, Ok, Err, Result, IfSome, string_bytes, refl, sym, ap, subst, ◌∙◌, arith, inl, inr, ◌⊎◌}
+use Rattle.std.proofs.Common.{◌≡◌, ◌≢◌, ℕ, ◌<◌, ◌≤◌, true, false, nat_lt, Option, Some, None, List, [], ◌∷◌, ◌++◌, take, length, Ok, Err, Result, IfSome, refl, sym, ap, subst, ◌∙◌, arith, inl, inr, ◌⊎◌}
 use Rattle.std.proofs.lemmas.List.{take_all, length-take-le}
 use Rattle.std.proofs.lemmas.Bool.{ltb-true, ltb-false, lt-ltb}
-use Rattle.std.specs.Prelude.{All, Contains}
+use Rattle.std.specs.Cow.{cow_str_bytes}
+use Rattle.std.specs.Prelude.{All, Contains, IsErr}
 use Rattle.arch_model.specs.Parts.{LibraryParts}
 use Rattle.arch_model.proofs.Members.{bool_cases}
 use Rattle.outside.specs.Faults.{Rose, NeverFall, Stay, ChangesOnly}
@@ -16,9 +17,9 @@ use Rattle.archex_app.specs.declared.outcome.Stop.TheVariants.{NoMemory, Unread,
 use Rattle.archex_app.specs.declared.status.Status.{Status}
 use Rattle.archex_app.specs.Status.{Ending, number_of, status_of, done, infeasible, node_limit, library_refused, words_refused, read_fault, write_fault, no_memory, log_refused, architecture_refused}
 use Rattle.archex_app.specs.Due.{Due, ends, unread, IsSettled}
-use Rattle.archex_app.specs.Words.{Asked, command_of, refused_words_text}
-use Rattle.archex_app.specs.ComesTo.{EndsWith}
-use Rattle.archex_app.specs.Run.{Seen, seen, IsCalm, LeavesAll, EndsAsDue, FailsToRead, FailsToWrite, WantsMemory, IsRun, Runs}
+use Rattle.archex_app.specs.Words.{Asked, refused_words_text, files_read, files_written}
+use Rattle.archex_app.specs.ComesTo.{EndsWith, CommandComesTo}
+use Rattle.archex_app.specs.Run.{Seen, HoldsAll, EndsAsDue, FailsToRead, FailsToWrite, WantsMemory, IsRun, Runs}
 use Rattle.archex_app.specs.Inner.Outcome.{IsOutcome, Settles, Printed, Finishes, IsRead}
 
 -- two texts that are both too long have one fault
@@ -42,9 +43,9 @@ same_library read all front =
           ap library_of (sym (take_all READ_LIMIT all within) ∙ sym front)
     ]
 
-pub is_read : (told : Option (List ℕ)) (read : List ℕ) (answer : Result LibraryParts LibFault) → IfSome told (λ all. read ≡ take READ_LIMIT all) → library_of read ≡ answer → IsRead told answer
-is_read None read answer front is = record { bytes = read; read = tt; library = is }
-is_read (Some all) read answer front is = record { bytes = all; read = refl; library = same_library read all front ∙ is }
+pub is_read : (told : Option (List ℕ)) (read : List ℕ) (answer : Result LibraryParts LibFault) → IfSome told (λ all. read ≡ take READ_LIMIT all) → library_of read ≡ answer → IsRead library_of told answer
+is_read None read answer front is = record { bytes = read; read = tt; is = is }
+is_read (Some all) read answer front is = record { bytes = all; read = refl; is = same_library read all front ∙ is }
 
 -- one status has one number
 pub apart : (status : Status) (m n : ℕ) → status ≡ record { 0 = m } → status ≡ record { 0 = n } → m ≢ n → ⊥
@@ -67,10 +68,14 @@ not_faults architecture_refused settled = (λ e. omega arith, λ e. omega arith,
 abbrev pub Ended : (Due → Type 0) → Status → Seen → Seen → Type 0
 Ended Comes status before now = EndsAsDue Comes status before now ⊎ (FailsToRead Comes status before now ⊎ (FailsToWrite Comes status before now ⊎ WantsMemory Comes status before now))
 
+-- nothing is due of files, and none changed
+no_files : (before now : Seen) → ((name : List ℕ) → now.told name ≡ before.told name) → HoldsAll [] before now
+no_files before now told = record { whole = λ k d short. absurd (omega arith); others = λ name none. told name }
+
 -- a text without files is printed, over a shelf that stayed as it was
-ends_printed : (Comes : Due → Type 0) (ending : Ending) (text : List ℕ) (due status : Status) (before now : Seen) → IsSettled ending → due ≡ status_of ending → Comes (ends ending [] text)
+ends_printed : (Comes : Due → Type 0) (ending : Ending) (text : List ℕ) (due status : Status) (before now : Seen) → IsSettled ending → due ≡ status_of ending → Comes (ends ending [] text) → ((name : List ℕ) → now.told name ≡ before.told name)
     → Stay before.reads now.reads → Stay before.writes now.writes → Printed due text status before.printed now.printed before.prints now.prints → Ended Comes status before now
-ends_printed Comes ending text due status before now settled is comes reads writes printed = elim printed [
+ends_printed Comes ending text due status before now settled is comes told reads writes printed = elim printed [
   | inl whole ↦ inl (record {
     ending = ending;
     settled = settled;
@@ -79,7 +84,7 @@ ends_printed Comes ending text due status before now settled is comes reads writ
     text = text;
     due = comes;
     printed = whole.1;
-    holds = λ k d short. absurd (omega arith);
+    holds = no_files before now told;
     calm = record { reads = reads; writes = writes; prints = whole.2 };
   })
   | inr part ↦ inr (inr (inl (record {
@@ -88,7 +93,7 @@ ends_printed Comes ending text due status before now settled is comes reads writ
     files = [];
     text = text;
     due = comes;
-    cause = inr (part.1, part.2, λ k d short. absurd (omega arith), writes);
+    cause = inr (record { rose = part.1; writes = writes; printed = part.2; holds = no_files before now told });
     reads = reads;
   })))
 ]
@@ -96,21 +101,24 @@ ends_printed Comes ending text due status before now settled is comes reads writ
 ends_so : (Comes : Due → Type 0) (r : Result Outcome Stop) (status : Status) (before now : Seen) → Settles Comes r before.reads now.reads → Finishes r status before.printed now.printed before.prints now.prints
     → ((name : List ℕ) → now.told name ≡ before.told name) → Stay before.writes now.writes → Ended Comes status before now
 ends_so Comes (Ok outcome) status before now settles finishes told writes =
-    ends_printed Comes settles.0.ending (string_bytes outcome.text) outcome.status status before now settles.0.settled settles.0.ended_so settles.0.due settles.1 writes finishes
+    ends_printed Comes settles.0.ending (cow_str_bytes outcome.text) outcome.status status before now settles.0.settled settles.0.ended_so settles.0.due told settles.1 writes finishes
 ends_so Comes (Err (Refused outcome)) status before now settles finishes told writes =
-    ends_printed Comes settles.0.ending (string_bytes outcome.text) outcome.status status before now settles.0.settled settles.0.ended_so settles.0.due settles.1 writes finishes
+    ends_printed Comes settles.0.ending (cow_str_bytes outcome.text) outcome.status status before now settles.0.settled settles.0.ended_so settles.0.due told settles.1 writes finishes
 ends_so Comes (Err Unread) status before now settles finishes told writes = inr (inl (record {
   ended_so = finishes.0;
   name = settles.0;
   due = settles.1;
   rose = settles.2;
-  leaves = record { printed = finishes.1; told = told };
+  reads = settles.3;
   writes = writes;
   prints = finishes.2;
+  printed = finishes.1;
+  kept = told;
 }))
 ends_so Comes (Err NoMemory) status before now settles finishes told writes = inr (inr (inr (record {
   ended_so = finishes.0;
-  leaves = inl (record { printed = finishes.1; told = told });
+  printed = finishes.1;
+  holds = inl told;
   calm = record { reads = settles; writes = writes; prints = finishes.2 };
 })))
 
@@ -127,32 +135,28 @@ run_of Comes read written status before now ended told alone rise writes prints 
 }
 
 -- a command that reads and prints: a run from what came and how it was finished
-pub finished : (Comes : Due → Type 0) (read written : List (List ℕ)) (r : Result Outcome Stop) (status : Status) (before now : Seen) → Settles Comes r before.reads now.reads
-    → Finishes r status before.printed now.printed before.prints now.prints → ((name : List ℕ) → now.told name ≡ before.told name) → ChangesOnly read before.reads now.reads → NeverFall before.reads now.reads
-    → Stay before.writes now.writes → before.prints ≤ now.prints → IsRun Comes read written status before now
-finished Comes read written r status before now settles finishes told alone rise writes prints =
-    run_of Comes read written status before now (ends_so Comes r status before now settles finishes told writes) told alone rise writes prints
+pub finished : (asked : Asked) (r : Result Outcome Stop) (status : Status) (before now : Seen) → Settles (CommandComesTo before.told asked) r before.reads now.reads
+    → Finishes r status before.printed now.printed before.prints now.prints → ((name : List ℕ) → now.told name ≡ before.told name) → ChangesOnly (files_read asked) before.reads now.reads → NeverFall before.reads now.reads
+    → Stay before.writes now.writes → before.prints ≤ now.prints → Runs (Ok asked) status before now
+finished asked r status before now settles finishes told alone rise writes prints = record {
+  goes = run_of (CommandComesTo before.told asked) (files_read asked) (files_written asked) status before now (ends_so _ r status before now settles finishes told writes) told alone rise writes prints;
+  refuses = λ err. let e : false ≡ true = err in cc;
+}
 
--- without memory nothing is printed by a command that prints its whole text at once
-not_printed : (Comes : Due → Type 0) (outcome : Outcome) (status : Status) (before now : Option (List ℕ)) (prints_before prints_now : ℕ) → IsOutcome Comes outcome → Printed outcome.status (string_bytes outcome.text) status before now prints_before prints_now → status ≡ record { 0 = 7 } → ⊥
-not_printed Comes outcome status before now p q is printed seven = elim printed [
-  | inl whole ↦ apart status (number_of is.ending) 7 (whole.0 ∙ is.ended_so) seven (not_faults is.ending is.settled).2
+-- refused words: over a shelf that stayed as it was
+printed_not : (text : List ℕ) (status : Status) (before now : Option (List ℕ)) (p q : ℕ) → Printed (status_of words_refused) text status before now p q → status ≡ status_of no_memory → ⊥
+printed_not text status before now p q printed seven = elim printed [
+  | inl whole ↦ apart status 4 7 whole.0 seven (λ e. omega arith)
   | inr part ↦ apart status 6 7 part.0 seven (λ e. omega arith)
 ]
 
-pub unprinted : (Comes : Due → Type 0) (r : Result Outcome Stop) (status : Status) (before now : Option (List ℕ)) (prints_before prints_now : ℕ) (reads_before reads_now : List ℕ → ℕ) → Settles Comes r reads_before reads_now → Finishes r status before now prints_before prints_now
-    → status ≡ record { 0 = 7 } → now ≡ before
-unprinted Comes (Ok outcome) status before now p q m n settles finishes seven = absurd (not_printed Comes outcome status before now p q settles.0 finishes seven)
-unprinted Comes (Err (Refused outcome)) status before now p q m n settles finishes seven = absurd (not_printed Comes outcome status before now p q settles.0 finishes seven)
-unprinted Comes (Err Unread) status before now p q m n settles finishes seven = finishes.1
-unprinted Comes (Err NoMemory) status before now p q m n settles finishes seven = finishes.1
-
--- refused words: over a shelf that stayed as it was
 pub refused_run : (place : ℕ) (status : Status) (before now : Seen) → Printed (status_of words_refused) (refused_words_text place) status before.printed now.printed before.prints now.prints → ((name : List ℕ) → now.told name ≡ before.told name)
-    → Stay before.reads now.reads → Stay before.writes now.writes → before.prints ≤ now.prints → IsRun (EndsWith words_refused (refused_words_text place)) [] [] status before now
-refused_run place status before now printed told reads writes prints =
-    run_of _ [] [] status before now (ends_printed (EndsWith words_refused (refused_words_text place)) words_refused (refused_words_text place) (status_of words_refused) status before now tt refl refl reads writes printed) told
-    (λ other. inl (reads other)) (λ other. let e = reads other in omega arith) writes prints
+    → Stay before.reads now.reads → Stay before.writes now.writes → before.prints ≤ now.prints → Runs (Err place) status before now
+refused_run place status before now printed told reads writes prints = record {
+  goes = run_of _ [] [] status before now (ends_printed (EndsWith words_refused (refused_words_text place)) words_refused (refused_words_text place) (status_of words_refused) status before now tt refl refl told reads writes printed) told
+      (λ other. inl (reads other)) (λ other. let e = reads other in omega arith) writes prints;
+  refuses = λ err. printed_not (refused_words_text place) status before.printed now.printed before.prints now.prints printed;
+}
 
 -- the words' command
 pub runs_as : (command read : Result Asked ℕ) (status : Status) (before now : Seen) → command ≡ read → Runs read status before now → Runs command status before now

@@ -2,10 +2,17 @@
 use Rattle.std.proofs.Common.{◌≡◌, ℕ, Option, None, List, [], ◌∷◌, codes, Ok, Err, refl, inl}
 use Rattle.archex_app.specs.declared.status.TheConstants as constants
 use Rattle.archex_app.specs.declared.reading.TheConstants.{READ_LIMIT}
-use Rattle.archex_app.specs.Status.{status_of, done, infeasible, library_refused, words_refused, read_fault, write_fault, no_memory}
+use Rattle.archex_app.specs.Status.{number_of, status_of, done, infeasible, node_limit, library_refused, words_refused, read_fault, write_fault, no_memory, log_refused, architecture_refused}
 use Rattle.archex_app.specs.Due.{ends, unread}
 use Rattle.archex_app.specs.Words.{solve, command_of, refused_words_text, files_of, files_read}
 use Rattle.archex_app.specs.ComesTo.{ComesTo}
+
+-- the number of each ending
+numbers_0_to_4 : (number_of done ≡ 0) × (number_of infeasible ≡ 1) × (number_of node_limit ≡ 2) × (number_of library_refused ≡ 3) × (number_of words_refused ≡ 4)
+numbers_0_to_4 = (refl, refl, refl, refl, refl)
+
+numbers_5_to_9 : (number_of read_fault ≡ 5) × (number_of write_fault ≡ 6) × (number_of no_memory ≡ 7) × (number_of log_refused ≡ 8) × (number_of architecture_refused ≡ 9)
+numbers_5_to_9 = (refl, refl, refl, refl, refl)
 
 -- the code's names of statuses
 answers : (constants.Status.DONE ≡ status_of done) × (constants.Status.INFEASIBLE ≡ status_of infeasible)

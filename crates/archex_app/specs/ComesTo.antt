@@ -18,13 +18,13 @@ EndsWith ending text due = due ≡ ends ending [] text
 abbrev pub Reads : (List ℕ → Option (List ℕ)) → List ℕ → (List ℕ → Due → Type 0) → Due → Type 0
 Reads told name Then due = (due ≡ unread name) ⊎ ((bytes : List ℕ) × IfSome (told name) (λ all. bytes ≡ all) × Then bytes due)
 
--- of the bytes of a library the job over it comes; bytes that are no library are refused for their first fault
-abbrev pub OfLibrary : (LibraryParts → Due → Type 0) → List ℕ → Due → Type 0
-OfLibrary Job bytes due = MatchResult (library_of bytes) (λ lib. Job lib due) (λ fault. EndsWith library_refused (refused_library_text fault) due)
+-- a file is read as something: of that a job comes, and bytes that aren't so are refused for their fault
+abbrev pub ReadsAs : {T E : Type 0} → (List ℕ → Result T E) → Ending → (E → List ℕ) → (List ℕ → Option (List ℕ)) → List ℕ → (T → Due → Type 0) → Due → Type 0
+ReadsAs of ending refusal told name Job due = Reads told name (λ bytes come. MatchResult (of bytes) (λ x. Job x come) (λ fault. EndsWith ending (refusal fault) come)) due
 
 -- a job over the library of a name
 abbrev pub OverLibrary : (List ℕ → Option (List ℕ)) → List ℕ → (LibraryParts → Due → Type 0) → Due → Type 0
-OverLibrary told name Job due = Reads told name (OfLibrary Job) due
+OverLibrary told name Job due = ReadsAs library_of library_refused refused_library_text told name Job due
 
 -- what `solve` comes to: the report of an architecture that meets the patterns at least cost, or that none meets them
 abbrev pub SolveComesTo : LibraryParts → Due → Type 0

@@ -5,6 +5,7 @@ pub mod Report
 pub mod Refusal
 pub mod Due
 pub mod ComesTo
+pub mod Endings
 pub mod Run
 pub mod Answer
 pub mod Complete

@@ -1,5 +1,5 @@
 -- How a run ends, and the numbers that say it.
-use Rattle.std.specs.Prelude.{ℕ, [], ◌∷◌, Contains}
+use Rattle.std.specs.Prelude.{ℕ}
 use Rattle.archex_app.specs.declared.status.Status.{Status}
 
 -- how a run may end
@@ -41,8 +41,3 @@ number_of architecture_refused = 9
 -- as a status
 abbrev pub status_of : Ending → Status
 status_of ending = record { 0 = number_of ending }
-
--- the statuses with which a run ends today; there is no other
-abbrev pub IsStatus : Status → Type 0
-IsStatus status =
-    Contains (number_of done ∷ number_of infeasible ∷ number_of library_refused ∷ number_of words_refused ∷ number_of read_fault ∷ number_of write_fault ∷ number_of no_memory ∷ []) status.0

@@ -55,7 +55,3 @@ files_of files (Err place) = []
 -- the text that refuses words for the one at a place
 abbrev pub refused_words_text : ℕ → List ℕ
 refused_words_text place = codes "refused words " ++ decimal place ++ codes "\n"
-
--- the words are refused, with this text
-abbrev pub RefusesWords : List (List ℕ) → List ℕ → Type 0
-RefusesWords words text = (place : ℕ) × (command_of words ≡ Err place) × (text ≡ refused_words_text place)

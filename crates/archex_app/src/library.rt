@@ -1,7 +1,10 @@
 // A library from the shelf.
 ghost use Rattle.std.specs.Prelude.{◌≡◌, ℕ, ◌≤◌, List, [], ◌∷◌, Ok, IfOk, OnOk, IfErr};
 ghost use Rattle.outside.specs.Faults.{Stay, ChangesOnly};
-ghost use Rattle.archex_app.specs.Inner.Outcome.{IsRead, StopsAtLibrary};
+ghost use Rattle.lib_read.specs.LibraryOf.{library_of};
+ghost use Rattle.archex_app.specs.Refusal.{refused_library_text};
+ghost use Rattle.archex_app.specs.Status.{library_refused};
+ghost use Rattle.archex_app.specs.Inner.Outcome.{IsRead, StopsAt};
 
 use crate::outcome::{Outcome, Stop};
 use crate::reading::read_file;
@@ -11,13 +14,14 @@ use arch_model::Library;
 use lib_read::{LibError, read_library};
 use outside::Shelf;
 use std::alloc::Global;
+use std::borrow::CowStr;
 
 /// The library under a name. Bytes that are none are refused for their first fault.
 pub fn library_under<F: Shelf>(alloc: Global, shelf: &mut F, name: &str) -> Result<Library, Stop>
-    ensures library { IfOk result (λ lib. IsRead (F.told shelf.old name.now) (Ok lib)) }
+    ensures library { IfOk result (λ lib. IsRead library_of (F.told shelf.old name.now) (Ok lib)) }
     ensures reads_stay { OnOk result (Stay (F.read_faults shelf.old) (F.read_faults shelf.new)) }
-    ensures stop { IfErr result (λ stop. StopsAtLibrary (F.told shelf.old name.now) name.now stop
-        (F.read_faults shelf.old) (F.read_faults shelf.new)) }
+    ensures stop { IfErr result (λ stop. StopsAt library_of library_refused refused_library_text
+        (F.told shelf.old name.now) name.now stop (F.read_faults shelf.old) (F.read_faults shelf.new)) }
 
     ensures told_stays { (other : List ℕ) → F.told shelf.new other ≡ F.told shelf.old other }
     ensures reads_never_fall { (other : List ℕ) → F.read_faults shelf.old other ≤ F.read_faults shelf.new other }
@@ -31,7 +35,7 @@ pub fn library_under<F: Shelf>(alloc: Global, shelf: &mut F, name: &str) -> Resu
             let text = refusal(alloc, &fault)?;
             Err(Stop::Refused(Outcome {
                 status: Status::LIBRARY_REFUSED,
-                text,
+                text: CowStr::Owned(text),
             }))
         }
         Err(LibError::Memory) => Err(Stop::NoMemory),

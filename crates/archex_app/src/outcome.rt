@@ -8,7 +8,8 @@ use crate::printing::print_all;
 use crate::reading::ReadError;
 use crate::status::Status;
 use outside::Sink;
-use std::alloc::AllocError;
+use std::alloc::{AllocError, Global};
+use std::borrow::CowStr;
 
 /// What a command comes to.
 #[derive(Drop)]
@@ -16,7 +17,7 @@ pub struct Outcome {
     /// How the run ends, once the text is printed.
     pub status: Status,
     /// The text that is due on the sink.
-    pub text: String,
+    pub text: CowStr<'static, Global>,
 }
 
 /// Why a command stops before its job is done.
@@ -71,8 +72,9 @@ pub fn finish<O: Sink>(out: &mut O, outcome: Result<Outcome, Stop>) -> Status
     ensures never_falls { O.faults out.old ≤ O.faults out.new }
 {
     match outcome {
-        Ok(outcome) => print(out, outcome.text.as_bytes(), outcome.status),
-        Err(Stop::Refused(outcome)) => print(out, outcome.text.as_bytes(), outcome.status),
+        Ok(outcome) | Err(Stop::Refused(outcome)) => {
+            print(out, outcome.text.as_bytes(), outcome.status)
+        }
         Err(Stop::Unread) => Status::READ_FAULT,
         Err(Stop::NoMemory) => Status::NO_MEMORY,
     }

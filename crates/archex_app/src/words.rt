@@ -1,5 +1,5 @@
 // The words of a command.
-ghost use Rattle.std.specs.Prelude.{◌≡◌, ◌≤◌, Ok, Err, IfOk, IfErr};
+ghost use Rattle.std.specs.Prelude.{◌≡◌, Ok, Err, IfOk, IfErr};
 ghost use Rattle.archex_app.specs.Words.{texts, solve, command_of};
 ghost use Rattle.archex_app.specs.Inner.Commands.{asked};
 
@@ -33,7 +33,6 @@ pub struct WordFault {
 pub fn read_words(words: &[String]) -> Result<Command<'_>, WordFault>
     ensures command { IfOk result (λ command. command_of (texts words.now) ≡ Ok (asked command)) }
     ensures fault { IfErr result (λ fault. command_of (texts words.now) ≡ Err fault.place) }
-    ensures within { IfErr result (λ fault. (1 ≤ fault.place) × (fault.place ≤ 3)) }
 {
     let [command, args @ ..] = words else {
         return Err(WordFault { place: 1 });

@@ -1,18 +1,15 @@
 -- For the code's own contracts: what a command comes to before anything is printed.
-use Rattle.std.specs.Prelude.{◌≡◌, ℕ, Option, List, [], ◌++◌, ◌⊎◌, Result, Ok, Err, string_bytes, IfSome}
-use Rattle.outside.specs.Faults.{Rose, Stay}
+use Rattle.std.specs.Prelude.{◌≡◌, ℕ, Option, List, [], ◌∷◌, ◌++◌, ◌⊎◌, Result, Ok, Err, IfSome}
+use Rattle.std.specs.Cow.{cow_str_bytes}
+use Rattle.outside.specs.Faults.{Rose, Stay, ChangesOnly}
 use Rattle.outside.specs.Told.{Appends}
-use Rattle.arch_model.specs.Parts.{LibraryParts}
-use Rattle.lib_read.specs.LibraryOf.{library_of}
-use Rattle.lib_read.specs.declared.fault.LibFault.{LibFault}
 use Rattle.archex_app.specs.declared.status.Status.{Status}
 use Rattle.archex_app.specs.declared.reading.ReadError.{ReadError}
 use Rattle.archex_app.specs.declared.reading.ReadError.TheVariants.{Memory, Failed}
 use Rattle.archex_app.specs.declared.outcome.Outcome.{Outcome}
 use Rattle.archex_app.specs.declared.outcome.Stop.{Stop}
 use Rattle.archex_app.specs.declared.outcome.Stop.TheVariants.{NoMemory, Unread, Refused}
-use Rattle.archex_app.specs.Status.{Ending, status_of, library_refused, read_fault, write_fault, no_memory}
-use Rattle.archex_app.specs.Refusal.{refused_library_text}
+use Rattle.archex_app.specs.Status.{Ending, status_of, read_fault, write_fault, no_memory}
 use Rattle.archex_app.specs.Due.{Due, ends, unread, IsSettled}
 
 -- a stop for the same cause as a read's
@@ -25,13 +22,13 @@ pub record IsOutcome (Comes : Due → Type 0) (outcome : Outcome) : Type 0 where
   pub ending : Ending
   pub settled : IsSettled ending
   pub ended_so : outcome.status ≡ status_of ending
-  pub due : Comes (ends ending [] (string_bytes outcome.text))
+  pub due : Comes (ends ending [] (cow_str_bytes outcome.text))
 
 -- what comes of a command's reads and its job, over the read counts before and after
 abbrev pub Settles : (Due → Type 0) → Result Outcome Stop → (List ℕ → ℕ) → (List ℕ → ℕ) → Type 0
 Settles Comes (Ok outcome) before now = IsOutcome Comes outcome × Stay before now
 Settles Comes (Err (Refused outcome)) before now = IsOutcome Comes outcome × Stay before now
-Settles Comes (Err Unread) before now = (name : List ℕ) × Comes (unread name) × Rose (before name) (now name)
+Settles Comes (Err Unread) before now = (name : List ℕ) × Comes (unread name) × Rose (before name) (now name) × ChangesOnly (name ∷ []) before now
 Settles Comes (Err NoMemory) before now = Stay before now
 
 -- a text was printed whole, with its status; or a front of it, since a write failed
@@ -42,20 +39,20 @@ Printed due text status before now faults_before faults_now =
 
 -- how a run ends with what came
 abbrev pub Finishes : Result Outcome Stop → Status → Option (List ℕ) → Option (List ℕ) → ℕ → ℕ → Type 0
-Finishes (Ok outcome) status before now faults_before faults_now = Printed outcome.status (string_bytes outcome.text) status before now faults_before faults_now
-Finishes (Err (Refused outcome)) status before now faults_before faults_now = Printed outcome.status (string_bytes outcome.text) status before now faults_before faults_now
+Finishes (Ok outcome) status before now faults_before faults_now = Printed outcome.status (cow_str_bytes outcome.text) status before now faults_before faults_now
+Finishes (Err (Refused outcome)) status before now faults_before faults_now = Printed outcome.status (cow_str_bytes outcome.text) status before now faults_before faults_now
 Finishes (Err Unread) status before now faults_before faults_now = (status ≡ status_of read_fault) × (now ≡ before) × (faults_now ≡ faults_before)
 Finishes (Err NoMemory) status before now faults_before faults_now = (status ≡ status_of no_memory) × (now ≡ before) × (faults_now ≡ faults_before)
 
--- what the bytes under a name are: a library, or which fault; those that are told, or where none are, some bytes
-pub record IsRead (told : Option (List ℕ)) (answer : Result LibraryParts LibFault) : Type 0 where
+-- what the bytes under a name are read as: those that are told, or where none are, some bytes
+pub record IsRead {T E : Type 0} (of : List ℕ → Result T E) (told : Option (List ℕ)) (answer : Result T E) : Type 0 where
   pub bytes : List ℕ
   pub read : IfSome told (λ all. bytes ≡ all)
-  pub library : library_of bytes ≡ answer
+  pub is : of bytes ≡ answer
 
--- why a library wasn't had: its refusal is due for its first fault, over the read counts before and after
-abbrev pub StopsAtLibrary : Option (List ℕ) → List ℕ → Stop → (List ℕ → ℕ) → (List ℕ → ℕ) → Type 0
-StopsAtLibrary told name (Refused outcome) before now =
-    ((fault : LibFault) × IsRead told (Err fault) × (outcome.status ≡ status_of library_refused) × (string_bytes outcome.text ≡ refused_library_text fault)) × Stay before now
-StopsAtLibrary told name Unread before now = Rose (before name) (now name)
-StopsAtLibrary told name NoMemory before now = Stay before now
+-- why a file wasn't read as something: its refusal is due for its fault, over the read counts before and after
+abbrev pub StopsAt : {T E : Type 0} → (List ℕ → Result T E) → Ending → (E → List ℕ) → Option (List ℕ) → List ℕ → Stop → (List ℕ → ℕ) → (List ℕ → ℕ) → Type 0
+StopsAt {E = E} of ending refusal told name (Refused outcome) before now =
+    ((fault : E) × IsRead of told (Err fault) × (outcome.status ≡ status_of ending) × (cow_str_bytes outcome.text ≡ refusal fault)) × Stay before now
+StopsAt of ending refusal told name Unread before now = Rose (before name) (now name) × ChangesOnly (name ∷ []) before now
+StopsAt of ending refusal told name NoMemory before now = Stay before now

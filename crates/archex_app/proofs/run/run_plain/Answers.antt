@@ -1,6 +1,4 @@
-use Rattle.std.proofs.Common.{inl, inr}
-use Rattle.archex_app.specs.Words.{texts}
-use Rattle.archex_app.proofs.Headline.{solve_run, optimal, none_meets, refused_library, read_rose, cut, completes, refused, is_status, print_rose, read_prints_nothing, reads_stay, writes_stay, prints_stay, told_stays}
+use Rattle.archex_app.proofs.Headline.{solve_run, optimal, none_meets, refused_library, read_rose, cut, completes, refused_first, refused, may_end, read_among, write_rose, prints_nothing, reads_stay, writes_stay, prints_stay}
 use Rattle.archex_app.proofs.run.run_plain.Goals as goal
 
 pub returns-clause-optimal : goal.returns-clause-optimal
@@ -21,26 +19,29 @@ returns-clause-cut g c name asked is = cut name _ _ _ (solve_run _ name _ _ _ as
 pub returns-clause-complete : goal.returns-clause-complete
 returns-clause-complete g c name bytes asked tells reads prints = completes name bytes _ _ _ (solve_run _ name _ _ _ asked c.run_command.ensures.run) tells reads prints
 
+pub returns-clause-words_first : goal.returns-clause-words_first
+returns-clause-words_first g c err = refused_first _ _ _ _ c.run_command.ensures.run err
+
 pub returns-clause-refused_words : goal.returns-clause-refused_words
-returns-clause-refused_words g c is = refused (texts c.args.words.now) _ _ _ c.run_command.ensures.run is
+returns-clause-refused_words g c place is four = refused _ place _ _ _ is c.run_command.ensures.run four
 
 pub returns-clause-statuses : goal.returns-clause-statuses
-returns-clause-statuses g c = is_status _ _ _ _ c.run_command.ensures.run
+returns-clause-statuses g c = may_end _ _ _ _ c.run_command.ensures.run
+
+pub returns-clause-unread : goal.returns-clause-unread
+returns-clause-unread g c is = read_among _ _ _ _ c.run_command.ensures.run is
 
 pub returns-clause-write_fault : goal.returns-clause-write_fault
-returns-clause-write_fault g c is = print_rose _ _ _ _ c.run_command.ensures.run is
+returns-clause-write_fault g c is = write_rose _ _ _ _ c.run_command.ensures.run is
 
 pub returns-clause-nothing_printed : goal.returns-clause-nothing_printed
-returns-clause-nothing_printed g c ends = elim ends [ inl is ↦ read_prints_nothing _ _ _ _ c.run_command.ensures.run is | inr is ↦ c.run_command.ensures.unprinted is ]
+returns-clause-nothing_printed g c is = prints_nothing _ _ _ _ c.run_command.ensures.run is
 
 pub returns-clause-reads_stay : goal.returns-clause-reads_stay
 returns-clause-reads_stay g c calm = reads_stay _ _ _ _ c.run_command.ensures.run calm
 
 pub returns-clause-writes_stay : goal.returns-clause-writes_stay
-returns-clause-writes_stay g c = writes_stay _ _ _ _ c.run_command.ensures.run
+returns-clause-writes_stay g c calm = writes_stay _ _ _ _ c.run_command.ensures.run calm
 
 pub returns-clause-prints_stay : goal.returns-clause-prints_stay
 returns-clause-prints_stay g c calm = prints_stay _ _ _ _ c.run_command.ensures.run calm
-
-pub returns-clause-told_stays : goal.returns-clause-told_stays
-returns-clause-told_stays g c = told_stays _ _ _ _ c.run_command.ensures.run

@@ -35,6 +35,6 @@ returns c =
       ended_so = refl;
       due = inr (
         none_meets c.args.lib c.requires.unrequired (subst (λ (lib : LibraryParts). (arch : ArchitectureParts) → IsCandidate lib arch → ⊥) same c.in-None.ensures.none),
-        ap (ends infeasible []) c.in_ok-text-in-None.ensures.ok,
+        refl,
       );
     }

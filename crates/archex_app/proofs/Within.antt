@@ -1,0 +1,120 @@
+-- What may come of a command stays within its endings and its files. One law for each form in which a command is said, so that a command's own is a line.
+use Rattle.std.proofs.Common.{◌≡◌, ℕ, Option, List, [], ◌∷◌, ◌++◌, Ok, Err, Result, IfSome, refl, sym, ap, subst, inl, inr, ◌⊎◌, arith}
+use Rattle.std.specs.Prelude.{MatchResult, Contains, map}
+use Rattle.arch_model.specs.Parts.{LibraryParts, ArchitectureParts}
+use Rattle.arch_model.specs.Admissible.{MeetsPatterns}
+use Rattle.lib_read.specs.LibraryOf.{library_of}
+use Rattle.archex_app.specs.Status.{Ending, done, infeasible, library_refused, words_refused}
+use Rattle.archex_app.specs.Due.{Due, ends, unread}
+use Rattle.archex_app.specs.Words.{Asked, solve, files_of, files_read, files_written}
+use Rattle.archex_app.specs.Cheapest.{IsCheapest}
+use Rattle.archex_app.specs.Report.{optimal_text, infeasible_text}
+use Rattle.archex_app.specs.Refusal.{refused_library_text}
+use Rattle.archex_app.specs.Endings.{endings_of}
+use Rattle.archex_app.specs.ComesTo.{ComesTo, CommandComesTo, EndsWith, Reads, ReadsAs, SolveComesTo}
+use Rattle.archex_app.specs.Run.{names_of}
+
+-- it ends with one of these endings, and reads and writes none but these files
+pub record Within (Comes : Due → Type 0) (endings : List Ending) (reads writes : List (List ℕ)) : Type 0 where
+  pub ending : (ending : Ending) (files : List (List ℕ × List ℕ)) (text : List ℕ) → Comes (ends ending files text) → Contains endings ending
+  pub written : (ending : Ending) (files : List (List ℕ × List ℕ)) (text name : List ℕ) → Comes (ends ending files text) → Contains (names_of files) name → Contains writes name
+  pub read : (name : List ℕ) → Comes (unread name) → Contains reads name
+
+-- the parts of what is due
+pub same_ending : {e e' : Ending} {f f' : List (List ℕ × List ℕ)} {t t' : List ℕ} → ends e f t ≡ ends e' f' t' → e ≡ e'
+same_ending h = cc
+
+pub same_files : {e e' : Ending} {f f' : List (List ℕ × List ℕ)} {t t' : List ℕ} → ends e f t ≡ ends e' f' t' → f ≡ f'
+same_files h = cc
+
+pub same_text : {e e' : Ending} {f f' : List (List ℕ × List ℕ)} {t t' : List ℕ} → ends e f t ≡ ends e' f' t' → t ≡ t'
+same_text h = cc
+
+pub same_name : {m n : List ℕ} → unread m ≡ unread n → m ≡ n
+same_name h = cc
+
+pub no_read : {n : List ℕ} {e : Ending} {f : List (List ℕ × List ℕ)} {t : List ℕ} → unread n ≡ ends e f t → ⊥
+no_read h = cc
+
+nothing_in : (name : List ℕ) → Contains (names_of []) name → ⊥
+nothing_in name has = absurd (omega (arith, has.1))
+
+pub ends_within : (ending : Ending) (text : List ℕ) (endings : List Ending) (read written : List (List ℕ)) → Contains endings ending → Within (EndsWith ending text) endings read written
+ends_within ending text endings read written has = record {
+  ending = λ e f t is. let P : Ending → Type 0 = Contains endings in subst P (sym (same_ending is)) has;
+  written = λ e f t name is in_files. let P : List (List ℕ × List ℕ) → Type 0 = λ l. Contains (names_of l) name in absurd (nothing_in name (subst P (same_files is) in_files));
+  read = λ name is. absurd (no_read is);
+}
+
+pub either_within : (A B : Due → Type 0) (endings : List Ending) (read written : List (List ℕ)) → Within A endings read written → Within B endings read written → Within (λ due. A due ⊎ B due) endings read written
+either_within A B endings read written a b = record {
+  ending = λ e f t is. elim is [ inl w ↦ a.ending e f t w | inr w ↦ b.ending e f t w ];
+  written = λ e f t name is has. elim is [ inl w ↦ a.written e f t name w has | inr w ↦ b.written e f t name w has ];
+  read = λ name is. elim is [ inl w ↦ a.read name w | inr w ↦ b.read name w ];
+}
+
+-- under a condition
+pub given_within : {X : Type 0} (A : Due → Type 0) (endings : List Ending) (read written : List (List ℕ)) → Within A endings read written → Within (λ due. X × A due) endings read written
+given_within A endings read written a = record {
+  ending = λ e f t is. a.ending e f t is.1;
+  written = λ e f t name is has. a.written e f t name is.1 has;
+  read = λ name is. a.read name is.1;
+}
+
+-- for something that meets a condition
+pub some_within : {X : Type 0} (P : X → Type 0) (A : X → Due → Type 0) (endings : List Ending) (read written : List (List ℕ)) → ((x : X) → Within (A x) endings read written) → Within (λ due. (x : X) × P x × A x due) endings read written
+some_within P A endings read written a = record {
+  ending = λ e f t is. (a is.0).ending e f t is.2;
+  written = λ e f t name is has. (a is.0).written e f t name is.2 has;
+  read = λ name is. (a is.0).read name is.2;
+}
+
+pub reads_within : (told : List ℕ → Option (List ℕ)) (name : List ℕ) (Then : List ℕ → Due → Type 0) (endings : List Ending) (read written : List (List ℕ)) → Contains read name → ((bytes : List ℕ) → Within (Then bytes) endings read written)
+    → Within (Reads told name Then) endings read written
+reads_within told name Then endings read written has a = record {
+  ending = λ e f t is. elim is [ inl w ↦ absurd (no_read (sym w)) | inr w ↦ (a w.0).ending e f t w.2 ];
+  written = λ e f t n is in_files. elim is [ inl w ↦ absurd (no_read (sym w)) | inr w ↦ (a w.0).written e f t n w.2 in_files ];
+  read = λ n is. let P : List ℕ → Type 0 = Contains read in elim is [ inl w ↦ subst P (sym (same_name w)) has | inr w ↦ (a w.0).read n w.2 ];
+}
+
+-- of an answer or a fault
+pub match_within : {T E : Type 0} (r : Result T E) (A : T → Due → Type 0) (B : E → Due → Type 0) (endings : List Ending) (read written : List (List ℕ)) → ((x : T) → Within (A x) endings read written) → ((x : E) → Within (B x) endings read written)
+    → Within (λ due. MatchResult r (λ x. A x due) (λ x. B x due)) endings read written
+match_within (Ok x) A B endings read written a b = a x
+match_within (Err x) A B endings read written a b = b x
+
+pub reads_as_within : {T E : Type 0} (of : List ℕ → Result T E) (ending : Ending) (refusal : E → List ℕ) (told : List ℕ → Option (List ℕ)) (name : List ℕ) (Job : T → Due → Type 0) (endings : List Ending) (read written : List (List ℕ)) → Contains read name → Contains endings ending
+    → ((x : T) → Within (Job x) endings read written) → Within (ReadsAs of ending refusal told name Job) endings read written
+reads_as_within of ending refusal told name Job endings read written has refused job =
+    reads_within told name _ endings read written has (λ bytes. match_within (of bytes) Job (λ fault. EndsWith ending (refusal fault)) endings read written job (λ fault. ends_within ending (refusal fault) endings read written refused))
+
+-- the commands
+abbrev Its : (List ℕ → Option (List ℕ)) → Asked → Type 0
+Its told asked = Within (CommandComesTo told asked) (endings_of asked) (files_read asked) (files_written asked)
+
+at_0 : {X : Type 0} (x : X) (xs : List X) → Contains (x ∷ xs) x
+at_0 x xs = (0, omega arith, refl)
+
+at_1 : {X : Type 0} (w x : X) (xs : List X) → Contains (w ∷ x ∷ xs) x
+at_1 w x xs = (1, omega arith, refl)
+
+at_2 : {X : Type 0} (v w x : X) (xs : List X) → Contains (v ∷ w ∷ x ∷ xs) x
+at_2 v w x xs = (2, omega arith, refl)
+
+solve_within : (lib : List ℕ) (l : LibraryParts) → Within (λ due. SolveComesTo l due) (endings_of (solve lib)) (lib ∷ []) []
+solve_within lib l =
+    either_within (λ due. (arch : ArchitectureParts) × IsCheapest l arch × EndsWith done (optimal_text l arch) due) (λ due. ((arch : ArchitectureParts) → MeetsPatterns l arch → ⊥) × EndsWith infeasible infeasible_text due) _ _ _
+    (some_within (IsCheapest l) (λ (arch : ArchitectureParts). EndsWith done (optimal_text l arch)) _ _ _ (λ arch. ends_within done _ _ _ _ (at_0 done (infeasible ∷ library_refused ∷ []))))
+    (given_within (EndsWith infeasible infeasible_text) _ _ _ (ends_within infeasible _ _ _ _ (at_1 done infeasible (library_refused ∷ []))))
+
+pub command_within : (told : List ℕ → Option (List ℕ)) (asked : Asked) → Its told asked
+command_within told (solve lib) = reads_as_within library_of library_refused refused_library_text told lib SolveComesTo _ _ _ (at_0 lib []) (at_2 done infeasible library_refused []) (λ l. solve_within lib l)
+
+-- the words
+pub words_read : (told : List ℕ → Option (List ℕ)) (command : Result Asked ℕ) (name : List ℕ) → ComesTo told command (unread name) → Contains (files_of files_read command) name
+words_read told (Ok asked) name comes = (command_within told asked).read name comes
+words_read told (Err place) name comes = absurd (no_read comes)
+
+pub words_written : (told : List ℕ → Option (List ℕ)) (command : Result Asked ℕ) (ending : Ending) (files : List (List ℕ × List ℕ)) (text name : List ℕ) → ComesTo told command (ends ending files text) → Contains (names_of files) name → Contains (files_of files_written command) name
+words_written told (Ok asked) ending files text name comes has = (command_within told asked).written ending files text name comes has
+words_written told (Err place) ending files text name comes has = let P : List (List ℕ × List ℕ) → Type 0 = λ l. Contains (names_of l) name in absurd (nothing_in name (subst P (same_files comes) has))

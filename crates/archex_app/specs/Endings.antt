@@ -1,0 +1,18 @@
+-- How a run of each command may end.
+use Rattle.std.specs.Prelude.{◌≡◌, ℕ, List, [], ◌∷◌, ◌++◌, Contains, Result, Ok, Err}
+use Rattle.archex_app.specs.declared.status.Status.{Status}
+use Rattle.archex_app.specs.Status.{Ending, status_of, done, infeasible, library_refused, words_refused, read_fault, write_fault, no_memory}
+use Rattle.archex_app.specs.Words.{Asked, solve}
+
+-- the endings that may be due of a command
+abbrev pub endings_of : Asked → List Ending
+endings_of (solve lib) = done ∷ infeasible ∷ library_refused ∷ []
+
+-- those of a run of words: a command may also end with a fault of the outside, or for want of memory; refused words end with their refusal, or with a fault of the sink
+abbrev pub endings_for : Result Asked ℕ → List Ending
+endings_for (Ok asked) = endings_of asked ++ read_fault ∷ write_fault ∷ no_memory ∷ []
+endings_for (Err place) = words_refused ∷ write_fault ∷ []
+
+-- the words may end a run with that status
+abbrev pub MayEnd : Result Asked ℕ → Status → Type 0
+MayEnd command status = (ending : Ending) × Contains (endings_for command) ending × (status ≡ status_of ending)
