@@ -5,13 +5,14 @@ ghost use Rattle.arch_model.specs.Name.{IsTypeName};
 use crate::choosing::chosen_cut;
 use arch_model::limits::{COMPONENTS, EDGES};
 use arch_model::{
-    Architecture, CompId, CompSet, Component, Edge, EdgeId, EdgeSet, Library, LinkRow, Memory,
-    Name, Requirement, Role, Template, TypeRow, fits, is_library,
+    Architecture, CompId, CompSet, EdgeId, EdgeSet, Library, LinkRow, Memory, Name, Requirement,
+    Role, TypeRow, fits, is_library,
 };
 use redundancy_cut::Cut;
 use std::alloc::Global;
 use std::process::Abort;
 use std::test::Fail;
+use template::{expand, has_few_components};
 
 // A type of two instances that fail this often, in parts per million.
 fn row(name: &str, role: Role, fail: u32) -> TypeRow
@@ -28,28 +29,6 @@ fn row(name: &str, role: Role, fail: u32) -> TypeRow
     }
 }
 
-// Instance `index` of type number `of`.
-fn instance(row: &TypeRow, of: u32, index: u32) -> Component {
-    Component {
-        of,
-        index,
-        role: row.role,
-        cost: 0,
-        supply: 0,
-        demand: 0,
-        fail: row.fail,
-    }
-}
-
-fn edge(tail: u32, head: u32) -> Edge {
-    Edge {
-        tail: CompId(tail),
-        head: CompId(head),
-        cost: 0,
-        fail: 0,
-    }
-}
-
 fn link(from: u32, to: u32) -> LinkRow {
     LinkRow {
         from,
@@ -57,34 +36,6 @@ fn link(from: u32, to: u32) -> LinkRow {
         cost: 0,
         fail: 0,
     }
-}
-
-// The template of two generators, two buses and two loads.
-fn template(
-    alloc: Global,
-    source: &TypeRow,
-    bus: &TypeRow,
-    load: &TypeRow,
-) -> Result<Template, Memory> {
-    let components = [
-        instance(source, 0, 1),
-        instance(source, 0, 2),
-        instance(bus, 1, 1),
-        instance(bus, 1, 2),
-        instance(load, 2, 1),
-        instance(load, 2, 2),
-    ];
-    let edges = [
-        edge(0, 2),
-        edge(0, 3),
-        edge(1, 2),
-        edge(1, 3),
-        edge(2, 4),
-        edge(2, 5),
-        edge(3, 4),
-        edge(3, 5),
-    ];
-    Ok(Template::new(components.to_vec(alloc)?, edges.to_vec(alloc)?))
 }
 
 // The requirement that a load weighs at most a bound.
@@ -104,12 +55,15 @@ fn network(
     bounds: (u64, u64),
 ) -> Result<Library, Memory> {
     let alloc = rt.alloc();
-    let source = row("gen", Role::Source, 1000);
-    let bus = row("bus", Role::Middle, bus_fail);
-    let load = row("load", Role::Sink, load_fail);
-    let template = template(alloc, &source, &bus, &load)?;
-    let types = [source, bus, load].to_vec(alloc)?;
+    let types = [
+        row("gen", Role::Source, 1000),
+        row("bus", Role::Middle, bus_fail),
+        row("load", Role::Sink, load_fail),
+    ]
+    .to_vec(alloc)?;
     let links = [link(0, 1), link(1, 2)].to_vec(alloc)?;
+    assert!(rt; has_few_components(&types));
+    let template = expand(alloc, &types, &links)?;
     let patterns = Vec::new(alloc);
     let requirements = [at_most(4, bounds.0), at_most(5, bounds.1)].to_vec(alloc)?;
     assert!(rt; is_library(&types, &links, &template, &patterns, &requirements));

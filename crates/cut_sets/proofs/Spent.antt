@@ -6,7 +6,7 @@ use Rattle.arch_model.specs.declared.limits.TheConstants.{MEMBERS, COMPONENTS}
 use Rattle.arch_model.specs.declared.template.Edge.{Edge}
 use Rattle.arch_model.specs.Parts.{LibraryParts, ArchitectureParts}
 use Rattle.arch_model.specs.Architecture.{IsArchitecture}
-use Rattle.arch_model.specs.Set.{Set, has, empty, union, minus, members_below}
+use Rattle.arch_model.specs.Set.{Set, has, union, minus, members_below}
 use Rattle.arch_model.specs.Inner.Sets.{members_from}
 use Rattle.std.specs.List.{range_with_len}
 use Rattle.arch_model.proofs.NextMember.{members_first, members_none}
@@ -15,14 +15,14 @@ use Rattle.arch_model.specs.Path.{is_source, is_up, live_edges, joins, LeadsTo, 
 use Rattle.arch_model.specs.CutSet.{without, is_minimal_cut_set}
 use Rattle.arch_model.proofs.Members.{and_left, and_right, and_both, or_left, or_right, or_cases, not_true, false_if, bool_cases, is_in-append, is_in-filter, is_in-members, has-from_members}
 use Rattle.arch_model.proofs.Present.{any_present-mono}
-use Rattle.arch_model.proofs.SetLaws.{has-union, has-minus, has-empty}
+use Rattle.arch_model.proofs.SetLaws.{has-union, has-minus}
 use Rattle.arch_model.proofs.Sublists.{map_all, members_inside}
 use Rattle.arch_model.proofs.Reaching.{parts_exact, walk_or_path, joins_head, joins_tail}
 use Rattle.arch_model.proofs.Walks.{walk_up}
 use Rattle.arch_model.proofs.CutSets.{passes}
 use Rattle.paths.specs.declared.links.Links.{Links}
 use Rattle.paths.proofs.LinkLaws.{links_beside}
-use Rattle.paths.specs.Inner.Links.{AreLinks}
+use Rattle.paths.specs.Links.{AreLinks}
 use Rattle.cut_sets.specs.declared.useful.Sides.{Sides}
 use Rattle.cut_sets.specs.Inner.Upcoming.{NetworkParts, PlaceParts, IsNetwork, IsPlace, is_live_cut_set, candidates_from, sets_beyond, IsFirstUseful}
 use Rattle.cut_sets.specs.Inner.Useful.{LeadsFrom, IsFar, IsNear, AreSides, is_passed, IsUseless}
@@ -107,14 +107,6 @@ no_sink net right place stands high = beyond_cut net right.fits place.chosen pla
     let short = chosen_below net 0 0 place.chosen place.at stands y k in
     let far = candidate_low net place.at y h in
     omega (arith, short, far)))
-
--- where no edge may fail, that of all edges serves for all sets of candidates
-pub links_all : (lib : LibraryParts) (arch : ArchitectureParts) (candidates failed : Set) (links : Links) → AreLinks lib arch (has empty) links → ((v : ℕ) → length lib.components ≤ v → has candidates v ≡ false)
-    → ((v : ℕ) → has failed v ≡ true → has candidates v ≡ true) → AreLinks lib arch (has failed) links
-links_all lib arch candidates failed links right none inside =
-    links_beside lib arch (has empty) (has failed) links right
-    (λ e. has-empty (length lib.components + e)
-    ∙ sym (false_if (has failed (length lib.components + e)) (λ h. let f : true ≡ false = sym (inside (length lib.components + e) h) ∙ none (length lib.components + e) (omega arith) in cc)))
 
 -- a sink that isn't reached is parted
 pub uncut_path : (lib : LibraryParts) (arch : ArchitectureParts) → IsArchitecture lib arch → (sink : ℕ) (f : ℕ → Bool) (b : Bool) → (IsTrue b ↔ ((p : List ℕ) × IsPath lib arch sink f p)) → parts lib arch sink f ≡ not b

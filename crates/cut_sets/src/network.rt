@@ -7,14 +7,14 @@ ghost use Rattle.arch_model.specs.Architecture.{IsArchitecture};
 ghost use Rattle.arch_model.specs.Member.{is_in};
 ghost use Rattle.arch_model.specs.Path.{IsPath, parts};
 ghost use Rattle.arch_model.specs.declared.limits.TheConstants.{MEMBERS};
-ghost use Rattle.paths.specs.Inner.Links.{AreLinks};
-ghost use Rattle.cut_sets.specs.Inner.Upcoming.{IsNetwork, IsPlace, IsNextChoice, candidates_from};
+ghost use Rattle.paths.specs.Links.{AreLinks};
+ghost use Rattle.cut_sets.specs.Inner.Upcoming.{IsNetwork, IsPlace, IsWide, IsNextChoice, candidates_from};
 
 use crate::candidates::candidates;
 use crate::place::Place;
 use crate::useful::{Failing, passed, sides_of};
 use arch_model::{Architecture, CompId, CompSet, Library, MemberSet, VarId};
-use paths::{Links, links_of, reach_over};
+use paths::{Links, links_of, reach, reach_over};
 use std::marker::Model;
 
 // A library's architecture, one of its components, and the members that may be in a set.
@@ -24,15 +24,13 @@ pub(crate) struct Network<'a> {
     arch: Architecture,
     sink: CompId,
     candidates: MemberSet,
-    // all present edges, and whether one of them is a candidate
+    // all present edges
     links: Links,
-    edges_fail: bool,
 }
 
 impl<'a> Model for Network<'a> {
-    ghost use Rattle.std.specs.Prelude.{◌≡◌, ℕ, ◌≤◌, false, length};
     ghost use Rattle.arch_model.specs.Set.{has, empty};
-    ghost use Rattle.paths.specs.Inner.Links.{AreLinks};
+    ghost use Rattle.paths.specs.Links.{AreLinks};
     ghost use Rattle.cut_sets.specs.Inner.Upcoming.{NetworkParts, IsNetwork};
 
     ghost Value = { NetworkParts };
@@ -42,7 +40,6 @@ impl<'a> Model for Network<'a> {
     ghost invariant = { λ a. record {
       network : IsNetwork (record { lib = a.lib.now; arch = a.arch; sink = a.sink.0; candidates = a.candidates });
       links : AreLinks a.lib.now a.arch (has empty) a.links;
-      edges : a.edges_fail ≡ false → (v : ℕ) → length a.lib.now.components ≤ v → has a.candidates v ≡ false;
     } };
 }
 
@@ -62,21 +59,38 @@ impl<'a> Network<'a> {
             sink,
             candidates,
             links: links_of(lib, arch, &MemberSet::new()),
-            edges_fail: !candidates.is_below(lib.components().len()),
+        }
+    }
+
+    // Whether all of some members are components. Where no edge has failed, the table serves.
+    fn are_components(&self, members: &MemberSet) -> bool
+        ensures { IsTrue result
+            ↔ ((v : ℕ) → IsTrue (set.has members.now v) → v < length self.now.lib.components) }
+    {
+        members.is_below(self.lib.components().len())
+    }
+
+    // The components to which a path leads where some members have failed.
+    fn reached(&self, failed: &MemberSet) -> CompSet
+        ensures { (c : ℕ) → IsTrue (set.has result c)
+            ↔ ((path : List ℕ) × IsPath self.now.lib self.now.arch c (set.has failed.now) path) }
+    {
+        if self.are_components(failed) {
+            reach_over(self.lib, &self.arch, &self.links, failed)
+        } else {
+            reach(self.lib, &self.arch, *failed)
         }
     }
 
     // Whether some failed members part the sink.
     pub(crate) fn cuts(&self, failed: &MemberSet) -> bool
-        requires { (v : ℕ) → IsTrue (set.has failed.now v) → IsTrue (set.has self.now.candidates v) }
         ensures { result ≡ parts self.now.lib self.now.arch self.now.sink (set.has failed.now) }
     {
-        !self.reached(&self.failing(*failed)).has(self.sink)
+        !self.reached(failed).has(self.sink)
     }
 
     // Whether some members part the sink no longer without any one of them.
     pub(crate) fn is_minimal(&self, members: &MemberSet) -> bool
-        requires { (v : ℕ) → IsTrue (set.has members.now v) → IsTrue (set.has self.now.candidates v) }
         ensures { result ≡ list_all
             (λ c. not (parts self.now.lib self.now.arch self.now.sink
             (set.has (set.minus members.now (set.put set.empty c)))))
@@ -110,27 +124,13 @@ impl<'a> Network<'a> {
         wide
     }
 
-    // Some candidates as failed members. Where no edge is a candidate, no table is made anew.
-    fn failing(&self, members: MemberSet) -> Failing
-        requires { (v : ℕ) → IsTrue (set.has members v) → IsTrue (set.has self.now.candidates v) }
-        ensures members { result.members ≡ members }
-        ensures links { AreLinks self.now.lib self.now.arch (set.has members) result.links }
-    {
-        let links = if self.edges_fail {
-            links_of(self.lib, &self.arch, &members)
-        } else {
-            self.links
-        };
-        Failing { members, links }
-    }
-
-    // The components to which a path leads where some members have failed.
-    fn reached(&self, failing: &Failing) -> CompSet
-        requires { AreLinks self.now.lib self.now.arch (set.has failing.now.members) failing.now.links }
+    // The components to which a path leads, over a table where some members have failed.
+    fn reached_over(&self, failing: &Failing) -> CompSet
+        requires { AreLinks self.now.lib self.now.arch (set.has failing.now.members.now) failing.now.links.now }
         ensures { (c : ℕ) → IsTrue (set.has result c)
-            ↔ ((path : List ℕ) × IsPath self.now.lib self.now.arch c (set.has failing.now.members) path) }
+            ↔ ((path : List ℕ) × IsPath self.now.lib self.now.arch c (set.has failing.now.members.now) path) }
     {
-        reach_over(self.lib, &self.arch, &failing.links, &failing.members)
+        reach_over(self.lib, &self.arch, failing.links, failing.members)
     }
 
     // Whether the sink is a component at all.
@@ -138,6 +138,63 @@ impl<'a> Network<'a> {
         ensures { IsTrue result ↔ (self.now.sink < length self.now.lib.components) }
     {
         (self.sink.0 as usize) < self.lib.components().len()
+    }
+
+    // What `next_useful` answers, where the chosen members have failed, and all of `wide`.
+    fn next_beside(
+        &self,
+        place: &Place,
+        chosen: &Failing,
+        wide: &Failing,
+        reached: &CompSet,
+    ) -> Option<VarId>
+        requires network { IsNetwork self.now }
+        requires in_range { self.now.sink < length self.now.lib.components }
+        requires same { (v : ℕ) → set.has chosen.now.members.now v ≡ is_in place.now.chosen v }
+        requires wide { IsWide self.now place.now wide.now.members.now }
+        requires chosen_links { AreLinks self.now.lib self.now.arch (set.has chosen.now.members.now) chosen.now.links.now }
+        requires wide_links { AreLinks self.now.lib self.now.arch (set.has wide.now.members.now) wide.now.links.now }
+        requires reached { (c : ℕ) → IsTrue (set.has reached.now c)
+            ↔ ((path : List ℕ) × IsPath self.now.lib self.now.arch c (set.has wide.now.members.now) path) }
+        ensures { IsNextChoice self.now place.now result }
+    {
+        let sides = sides_of(self.lib, &self.arch, self.sink, chosen, wide, reached);
+        let useful = passed(self.lib, self.sink, &sides, wide.members);
+        if let Some(_stranded) = chosen.members.minus(&useful).next_from(0) {
+            return None;
+        }
+        let next = useful.next_from(place.at())?;
+        Some(VarId(next as u32))
+    }
+
+    // What `next_useful` answers, where all of `wide` have failed.
+    fn next_within(&self, place: &Place, wide: &Failing) -> Option<VarId>
+        requires network { IsNetwork self.now }
+        requires place { IsPlace self.now place.now }
+        requires in_range { self.now.sink < length self.now.lib.components }
+        requires wide { IsWide self.now place.now wide.now.members.now }
+        requires links { AreLinks self.now.lib self.now.arch (set.has wide.now.members.now) wide.now.links.now }
+        ensures { IsNextChoice self.now place.now result }
+    {
+        let reached = self.reached_over(wide);
+        if reached.has(self.sink) {
+            return None;
+        }
+        let members = place.set();
+        if self.are_components(&members) {
+            let chosen = Failing {
+                members: &members,
+                links: &self.links,
+            };
+            self.next_beside(place, &chosen, wide, &reached)
+        } else {
+            let links = links_of(self.lib, &self.arch, &members);
+            let chosen = Failing {
+                members: &members,
+                links: &links,
+            };
+            self.next_beside(place, &chosen, wide, &reached)
+        }
     }
 
     // The next candidate to choose: the least from a place on that can be needed beside the chosen
@@ -151,18 +208,20 @@ impl<'a> Network<'a> {
         if !self.has_sink() {
             return None;
         }
-        let chosen = self.failing(place.set());
-        let wide = self.failing(self.undecided(place));
-        let reached = self.reached(&wide);
-        if reached.has(self.sink) {
-            return None;
+        let members = self.undecided(place);
+        if self.are_components(&members) {
+            let wide = Failing {
+                members: &members,
+                links: &self.links,
+            };
+            self.next_within(place, &wide)
+        } else {
+            let links = links_of(self.lib, &self.arch, &members);
+            let wide = Failing {
+                members: &members,
+                links: &links,
+            };
+            self.next_within(place, &wide)
         }
-        let sides = sides_of(self.lib, &self.arch, self.sink, &chosen, &wide, &reached);
-        let useful = passed(self.lib, self.sink, &sides, &wide.members);
-        if let Some(_stranded) = chosen.members.minus(&useful).next_from(0) {
-            return None;
-        }
-        let next = useful.next_from(place.at())?;
-        Some(VarId(next as u32))
     }
 }

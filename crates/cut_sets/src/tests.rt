@@ -3,12 +3,12 @@ ghost use Rattle.arch_model.specs.Name.{IsTypeName};
 
 use crate::CutSets;
 use arch_model::{
-    Architecture, CompId, CompSet, Component, Edge, EdgeId, EdgeSet, Library, LinkRow, Name, Role,
-    Template, TypeRow, VarId, fits, is_library,
+    Architecture, CompId, CompSet, EdgeId, EdgeSet, Library, LinkRow, Name, Role, TypeRow, VarId,
+    fits, is_library,
 };
-use std::alloc::Global;
 use std::process::Abort;
 use std::test::Fail;
+use template::{expand, has_few_components};
 
 // A type of at most `max` instances, each of which fails `fail` times in a million.
 fn row(name: &str, role: Role, max: u32, fail: u32) -> TypeRow
@@ -23,64 +23,6 @@ fn row(name: &str, role: Role, max: u32, fail: u32) -> TypeRow
         demand: 0,
         fail,
     }
-}
-
-// The components of some types.
-fn components(alloc: Global, types: &[TypeRow]) -> Result<Vec<Component>, Fail> {
-    let mut components = Vec::new(alloc);
-    let mut of: u32 = 0;
-    for row in types {
-        for i in 0..row.max {
-            components.push(Component {
-                of,
-                index: i + 1,
-                role: row.role,
-                cost: row.cost,
-                supply: row.supply,
-                demand: row.demand,
-                fail: row.fail,
-            })?;
-        }
-        of = of.wrapping_add(1);
-    }
-    Ok(components)
-}
-
-// Appends the edges of a link that leave one component.
-fn push_edges(
-    edges: &mut Vec<Edge>,
-    components: &[Component],
-    link: &LinkRow,
-    tail: u32,
-) -> Result<(), Fail> {
-    let mut head: u32 = 0;
-    for component in components {
-        if component.of == link.to && head != tail {
-            edges.push(Edge {
-                tail: CompId(tail),
-                head: CompId(head),
-                cost: link.cost,
-                fail: link.fail,
-            })?;
-        }
-        head = head.wrapping_add(1);
-    }
-    Ok(())
-}
-
-// The edges of some links.
-fn edges(alloc: Global, components: &[Component], links: &[LinkRow]) -> Result<Vec<Edge>, Fail> {
-    let mut edges = Vec::new(alloc);
-    for link in links {
-        let mut tail: u32 = 0;
-        for component in components {
-            if component.of == link.from {
-                push_edges(&mut edges, components, link, tail)?;
-            }
-            tail = tail.wrapping_add(1);
-        }
-    }
-    Ok(edges)
 }
 
 // A link by the numbers of its types, whose edges fail `fail` times in a million.
@@ -99,13 +41,14 @@ fn library(
     types: &[TypeRow],
     links: &[LinkRow],
 ) -> Result<Library, Fail> {
-    let links = links.to_vec(rt.alloc())?;
-    let types = types.to_vec(rt.alloc())?;
-    let components = components(rt.alloc(), &types)?;
-    let edges = edges(rt.alloc(), &components, &links)?;
-    let template = Template::new(components, edges);
-    let patterns = Vec::new(rt.alloc());
-    let requirements = Vec::new(rt.alloc());
+    let alloc = rt.alloc();
+    let types = types.to_vec(alloc)?;
+    let links = links.to_vec(alloc)?;
+    assert!(rt; types.len() <= 64);
+    assert!(rt; has_few_components(&types));
+    let template = expand(alloc, &types, &links)?;
+    let patterns = Vec::new(alloc);
+    let requirements = Vec::new(alloc);
     assert!(rt; is_library(&types, &links, &template, &patterns, &requirements));
     Ok(Library::new(types, links, template, patterns, requirements))
 }
@@ -359,6 +302,26 @@ fn sets_with_a_member_that_never_fails_are_left_out(rt: HostRuntime) -> Result<(
         },
     ];
     expect(&rt, &bypass(&rt)?, 4, &cases);
+    Ok(())
+}
+
+// Four sources that each feed a sink that never fails: all that stand are one set.
+#[test]
+fn sources_side_by_side_are_one_set(rt: HostRuntime) -> Result<(), Fail> {
+    let types = [row("s", Role::Source, 4, 1), row("t", Role::Sink, 1, 0)];
+    let cases = [
+        Case {
+            comps: &[0, 1, 2, 3, 4],
+            edges: &[0, 1, 2, 3],
+            sets: &[&[0, 1, 2, 3]],
+        },
+        Case {
+            comps: &[0, 1, 2, 4],
+            edges: &[0, 1, 2],
+            sets: &[&[0, 1, 2]],
+        },
+    ];
+    expect(&rt, &library(&rt, &types, &[link(0, 1, 0)])?, 4, &cases);
     Ok(())
 }
 

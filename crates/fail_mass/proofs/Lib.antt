@@ -5,3 +5,4 @@ pub mod EnclosingLemmas
 pub mod LoopLemmas
 pub mod NetworkLemmas
 pub mod OffPaths
+pub mod WorkedRows

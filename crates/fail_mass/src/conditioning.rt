@@ -58,7 +58,9 @@ pub(crate) fn where_failed(
     }
 }
 
-// The same where the sink is still reached.
+// The same where the sink is still reached, as in a case in which a member works. Fewer members may
+// fail then, so the sink may be safe: one search settles all cases that are left. A case in which a
+// member fails needs no such search, since what has failed or may fail is together as before.
 #[cycle(conditioning)]
 fn where_reached(
     net: &Network,

@@ -3,12 +3,12 @@ ghost use Rattle.arch_model.specs.Name.{IsTypeName};
 
 use crate::enclose;
 use arch_model::{
-    Architecture, CompId, CompSet, Component, Edge, EdgeId, EdgeSet, Library, LinkRow, Name, Role,
-    Template, TypeRow, fits, is_library,
+    Architecture, CompId, CompSet, EdgeId, EdgeSet, Library, LinkRow, Name, Role, TypeRow, fits,
+    is_library,
 };
-use std::alloc::Global;
 use std::process::Abort;
 use std::test::Fail;
+use template::{expand, has_few_components};
 
 // A type of at most `max` instances, each of which fails `fail` times in a million.
 fn row(name: &str, role: Role, max: u32, fail: u32) -> TypeRow
@@ -25,64 +25,6 @@ fn row(name: &str, role: Role, max: u32, fail: u32) -> TypeRow
     }
 }
 
-// The components of some types.
-fn components(alloc: Global, types: &[TypeRow]) -> Result<Vec<Component>, Fail> {
-    let mut components = Vec::new(alloc);
-    let mut of: u32 = 0;
-    for row in types {
-        for i in 0..row.max {
-            components.push(Component {
-                of,
-                index: i + 1,
-                role: row.role,
-                cost: row.cost,
-                supply: row.supply,
-                demand: row.demand,
-                fail: row.fail,
-            })?;
-        }
-        of = of.wrapping_add(1);
-    }
-    Ok(components)
-}
-
-// Appends the edges of a link that leave one component.
-fn push_edges(
-    edges: &mut Vec<Edge>,
-    components: &[Component],
-    link: &LinkRow,
-    tail: u32,
-) -> Result<(), Fail> {
-    let mut head: u32 = 0;
-    for component in components {
-        if component.of == link.to && head != tail {
-            edges.push(Edge {
-                tail: CompId(tail),
-                head: CompId(head),
-                cost: link.cost,
-                fail: link.fail,
-            })?;
-        }
-        head = head.wrapping_add(1);
-    }
-    Ok(())
-}
-
-// The edges of some links.
-fn edges(alloc: Global, components: &[Component], links: &[LinkRow]) -> Result<Vec<Edge>, Fail> {
-    let mut edges = Vec::new(alloc);
-    for link in links {
-        let mut tail: u32 = 0;
-        for component in components {
-            if component.of == link.from {
-                push_edges(&mut edges, components, link, tail)?;
-            }
-            tail = tail.wrapping_add(1);
-        }
-    }
-    Ok(edges)
-}
-
 // The library of some types, and of links that are given by the numbers of their types and how
 // often an edge fails.
 fn library(
@@ -90,7 +32,8 @@ fn library(
     types: &[TypeRow],
     ends: &[(u32, u32, u32)],
 ) -> Result<Library, Fail> {
-    let mut links = Vec::new(rt.alloc());
+    let alloc = rt.alloc();
+    let mut links = Vec::new(alloc);
     for (from, to, fail) in ends {
         links.push(LinkRow {
             from: *from,
@@ -99,12 +42,12 @@ fn library(
             fail: *fail,
         })?;
     }
-    let types = types.to_vec(rt.alloc())?;
-    let components = components(rt.alloc(), &types)?;
-    let edges = edges(rt.alloc(), &components, &links)?;
-    let template = Template::new(components, edges);
-    let patterns = Vec::new(rt.alloc());
-    let requirements = Vec::new(rt.alloc());
+    let types = types.to_vec(alloc)?;
+    assert!(rt; types.len() <= 64);
+    assert!(rt; has_few_components(&types));
+    let template = expand(alloc, &types, &links)?;
+    let patterns = Vec::new(alloc);
+    let requirements = Vec::new(alloc);
     assert!(rt; is_library(&types, &links, &template, &patterns, &requirements));
     Ok(Library::new(types, links, template, patterns, requirements))
 }

@@ -6,27 +6,14 @@ ghost use Rattle.arch_model.specs.Member as member;
 ghost use Rattle.arch_model.specs.Set as set;
 ghost use Rattle.fail_mass.specs.Inner.Cases as cases;
 
-use arch_model::{Architecture, CompId, EdgeId, Library, MemberSet, VarId, fail};
-
-// Whether a member is present.
-fn is_present(lib: &Library, arch: &Architecture, v: u32) -> bool
-    requires { v < member.member_count lib.now }
-    ensures { result ≡ member.is_present lib.now arch.now v }
-{
-    let n = lib.components().len() as u32;
-    if v < n {
-        arch.comps().has(CompId(v))
-    } else {
-        arch.edges().has(EdgeId(v - n))
-    }
-}
+use arch_model::{Architecture, Library, MemberSet, VarId, fail, is_present};
 
 // Whether a member is present and may fail.
-fn may_fail(lib: &Library, arch: &Architecture, v: u32) -> bool
-    requires { v < member.member_count lib.now }
-    ensures { result ≡ cases.may_fail lib.now arch.now v }
+fn may_fail(lib: &Library, arch: &Architecture, v: VarId) -> bool
+    requires { v.0 < member.member_count lib.now }
+    ensures { result ≡ cases.may_fail lib.now arch.now v.0 }
 {
-    is_present(lib, arch, v) && 0 < fail(lib, VarId(v))
+    is_present(lib, arch, v) && 0 < fail(lib, v)
 }
 
 /// The members that are present and may fail.
@@ -39,7 +26,7 @@ pub(crate) fn undecided(lib: &Library, arch: &Architecture) -> MemberSet
     let n = (lib.components().len() + lib.edges().len()) as u32;
     let mut open = MemberSet::new();
     for v in 0..n {
-        if may_fail(lib, arch, v) {
+        if may_fail(lib, arch, VarId(v)) {
             open.put(VarId(v));
         }
     }

@@ -1,5 +1,5 @@
 -- What a search over rows finds: the paths, and what leads to a sink.
-use Rattle.std.proofs.Common.{◌≡◌, ℕ, ◌<◌, ◌≤◌, Bool, true, false, not, ◌&&◌, ◌||◌, nat_eq, List, [], ◌∷◌, length, sym, ap, ◌∙◌, subst, arith, inl, inr}
+use Rattle.std.proofs.Common.{◌≡◌, ℕ, ◌<◌, ◌≤◌, true, not, ◌&&◌, ◌||◌, nat_eq, List, [], ◌∷◌, length, sym, ap, ◌∙◌, subst, arith, inl, inr}
 use Rattle.std.specs.List.{All, list_any}
 use Rattle.std.specs.Prelude.{IsTrue, ◌↔◌}
 use Rattle.std.proofs.lemmas.Bool.{eqb-true, eq-eqb}
@@ -18,7 +18,8 @@ use Rattle.arch_model.proofs.Reaching.{walk_or_path, joins_tail, joins_head}
 use Rattle.arch_model.proofs.Walks.{walk_map}
 use Rattle.paths.specs.declared.adjacency.Way.{Way}
 use Rattle.paths.specs.declared.adjacency.Way.TheVariants.{Down, Up}
-use Rattle.paths.specs.Inner.Spread.{from_of, to_of, leads, live, is_next}
+use Rattle.paths.specs.Inner.Spread.{from_of, to_of, leads, live}
+use Rattle.paths.specs.Links.{is_next}
 
 -- both ends of a library's edges are below the limit
 pub froms : (lib : LibraryParts) → IsLibrary lib → (es : List Edge) → es ≡ lib.edges → (way : Way) → All (λ e. from_of way e < COMPONENTS) es
@@ -38,7 +39,7 @@ module _ (lib : LibraryParts) (arch : ArchitectureParts) (failed : Set) where
 
   -- down from the sources
   pub reach_exact : (up first : Set) (rows : List Set) → ((c : ℕ) → has up c ≡ is_up arch (has failed) c) → ((c : ℕ) → has first c ≡ (has up c && is_source lib c))
-      → ((a c : ℕ) → is_next rows a c ≡ leads Down (live_edges lib arch (has failed)) a c)
+      → ((a c : ℕ) → is_next rows a c ≡ joins (live_edges lib arch (has failed)) a c)
       → (c : ℕ) → ((rest : List ℕ) × IsWalk (has first) (has up) (is_next rows) c rest) ↔ ((path : List ℕ) × IsPath lib arch c (has failed) path)
   reach_exact up first rows ups firsts nexts c =
       let exact = walk_or_path lib arch (has failed) c in (
@@ -55,23 +56,9 @@ module _ (lib : LibraryParts) (arch : ArchitectureParts) (failed : Set) where
       )
 
   -- up from a sink
-  swap : (a b : Bool) → (a && b) ≡ true → (b && a) ≡ true
-  swap true b h = ap (λ x. x && true) h
-  swap false b h = let e : false ≡ true = h in absurd cc
-
-  any_wider : (p q : Edge → Bool) (es : List Edge) → ((e : Edge) → p e ≡ true → q e ≡ true) → list_any p es ≡ true → list_any q es ≡ true
-  any_wider p q [] wider h = h
-  any_wider p q (e ∷ es) wider h = elim (or_cases (p e) (list_any p es) h) [ inl here ↦ or_left (q e) (list_any q es) (wider e here) | inr later ↦ or_right (q e) (list_any q es) (any_wider p q es wider later) ]
-
-  turn : (a c : ℕ) → leads Up (live_edges lib arch (has failed)) a c ≡ true → joins (live_edges lib arch (has failed)) c a ≡ true
-  turn a c h = any_wider (λ (e : Edge). nat_eq e.head.0 a && nat_eq e.tail.0 c) (λ (e : Edge). nat_eq e.tail.0 c && nat_eq e.head.0 a) (live_edges lib arch (has failed)) (λ e. swap (nat_eq e.head.0 a) (nat_eq e.tail.0 c)) h
-
-  turn_back : (a c : ℕ) → joins (live_edges lib arch (has failed)) c a ≡ true → leads Up (live_edges lib arch (has failed)) a c ≡ true
-  turn_back a c h = any_wider (λ (e : Edge). nat_eq e.tail.0 c && nat_eq e.head.0 a) (λ (e : Edge). nat_eq e.head.0 a && nat_eq e.tail.0 c) (live_edges lib arch (has failed)) (λ e. swap (nat_eq e.tail.0 c) (nat_eq e.head.0 a)) h
-
   module _ (fits : IsArchitecture lib arch) (sink : ℕ) (up first : Set) (rows : List Set) (one : first ≡ put empty sink)
       (ups : (c : ℕ) → has up c ≡ (has (union arch.comps first) c && not (has failed c)))
-      (nexts : (a c : ℕ) → is_next rows a c ≡ leads Up (live_edges lib arch (has failed)) a c) where
+      (nexts : (a c : ℕ) → is_next rows a c ≡ joins (live_edges lib arch (has failed)) c a) where
     only_sink : (c : ℕ) → has first c ≡ nat_eq sink c
     only_sink c = ap (λ s. has s c) one ∙ has-put empty sink c ∙ ap (λ b. b || nat_eq sink c) (has-empty c)
 
@@ -83,12 +70,12 @@ module _ (lib : LibraryParts) (arch : ArchitectureParts) (failed : Set) where
 
     leads_of : (c : ℕ) (rest : List ℕ) → IsWalk (has first) (has up) (is_next rows) c rest → LeadsTo lib arch sink (has failed) (c ∷ rest)
     leads_of c [] w = (up_live c w.0, sym (eqb-true sink c (sym (only_sink c) ∙ w.1)))
-    leads_of c (b ∷ rest) w = (up_live c w.0, turn b c (sym (nexts b c) ∙ w.1), leads_of b rest w.2)
+    leads_of c (b ∷ rest) w = (up_live c w.0, sym (nexts b c) ∙ w.1, leads_of b rest w.2)
 
     walk_back : (c : ℕ) (rest : List ℕ) → LeadsTo lib arch sink (has failed) (c ∷ rest) → IsWalk (has first) (has up) (is_next rows) c rest
     walk_back c [] h = let begin = only_sink c ∙ eq-eqb sink c (sym h.1) in (is_up_here c (or_right (has arch.comps c) (has first c) begin) h.0, begin)
     walk_back c (b ∷ rest) h =
-        (is_up_here c (or_left (has arch.comps c) (has first c) (joins_tail lib arch (has failed) fits c b h.1)) h.0, nexts b c ∙ turn_back b c h.1, walk_back b rest h.2)
+        (is_up_here c (or_left (has arch.comps c) (has first c) (joins_tail lib arch (has failed) fits c b h.1)) h.0, nexts b c ∙ h.1, walk_back b rest h.2)
 
     pub ancestors_exact : (c : ℕ) → ((rest : List ℕ) × IsWalk (has first) (has up) (is_next rows) c rest) ↔ ((rest : List ℕ) × LeadsTo lib arch sink (has failed) (c ∷ rest))
     ancestors_exact c = ((λ w. (w.0, leads_of c w.0 w.1)), (λ l. (l.0, walk_back c l.0 l.1)))
@@ -106,18 +93,18 @@ module _ (lib : LibraryParts) (arch : ArchitectureParts) (failed : Set) where
         let short = fits.comps b here in
         steps ∙ and_both (has up c) _ (ap (λ s. has s c) all ∙ there) (any_of (λ a. is_next rows a c) (members_below from COMPONENTS) b (is_in-members from COMPONENTS b h (omega (arith, short, few))) next)
 
-    pub down_exact : ((a d : ℕ) → is_next rows a d ≡ leads Down (live_edges lib arch (has failed)) a d)
+    pub down_exact : ((a d : ℕ) → is_next rows a d ≡ joins (live_edges lib arch (has failed)) a d)
         → IsTrue (has found c) ↔ ((b : ℕ) × IsTrue (has from b) × IsTrue (joins (live_edges lib arch (has failed)) b c))
     down_exact nexts = (
       (λ h. let b = found_one h in (b.0, b.1, sym (nexts b.0 c) ∙ b.2)),
       (λ b. one_found b.0 b.1 (joins_tail lib arch (has failed) fits b.0 c b.2) (joins_head lib arch (has failed) fits b.0 c b.2) (nexts b.0 c ∙ b.2)),
     )
 
-    pub up_exact : ((a d : ℕ) → is_next rows a d ≡ leads Up (live_edges lib arch (has failed)) a d)
+    pub up_exact : ((a d : ℕ) → is_next rows a d ≡ joins (live_edges lib arch (has failed)) d a)
         → IsTrue (has found c) ↔ ((d : ℕ) × IsTrue (has from d) × IsTrue (joins (live_edges lib arch (has failed)) c d))
     up_exact nexts = (
-      (λ h. let d = found_one h in (d.0, d.1, turn d.0 c (sym (nexts d.0 c) ∙ d.2))),
-      (λ d. one_found d.0 d.1 (joins_head lib arch (has failed) fits c d.0 d.2) (joins_tail lib arch (has failed) fits c d.0 d.2) (nexts d.0 c ∙ turn_back d.0 c d.2)),
+      (λ h. let d = found_one h in (d.0, d.1, sym (nexts d.0 c) ∙ d.2)),
+      (λ d. one_found d.0 d.1 (joins_head lib arch (has failed) fits c d.0 d.2) (joins_tail lib arch (has failed) fits c d.0 d.2) (nexts d.0 c ∙ d.2)),
     )
 
   -- the sink and the present components are in range

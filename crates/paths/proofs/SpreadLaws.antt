@@ -7,6 +7,7 @@ use Rattle.std.proofs.lemmas.List.Folds.{list_any-append}
 use Rattle.std.proofs.lemmas.Option.{slice_get-get_or, unwrap_or-slice_get}
 use Rattle.std.proofs.lemmas.Bool.{eqb-true, lt-ltb, ltb-true, le-ltb}
 use Rattle.std.proofs.lemmas.Bool.Decides.{eqb_tells}
+use Rattle.std.proofs.Math.Bool.{and_comm}
 use Rattle.std.proofs.Math.ListN.{set}
 use Rattle.std.proofs.lemmas.List.FromFn.{length-range_with_len}
 use Rattle.arch_model.specs.declared.template.Component.{Component}
@@ -24,7 +25,9 @@ use Rattle.arch_model.proofs.SetLaws.{has-put, has-empty, has-union, has-interse
 use Rattle.arch_model.proofs.Ranges.{blank_edge, blank_component}
 use Rattle.arch_model.proofs.Walks.{level_next, level_first, level_inside, IsClosed, reached_exact, closed_at_last}
 use Rattle.paths.specs.declared.adjacency.Way.{Way}
-use Rattle.paths.specs.Inner.Spread.{from_of, to_of, leads, live, is_next}
+use Rattle.paths.specs.declared.adjacency.Way.TheVariants.{Down, Up}
+use Rattle.paths.specs.Inner.Spread.{from_of, to_of, leads, live}
+use Rattle.paths.specs.Links.{is_next}
 
 -- the numbers below n
 unfoldable pub numbers_below : ℕ → List ℕ
@@ -142,6 +145,11 @@ any_chosen {X = X} q s d item b (x ∷ xs) items =
       | false ↦ rest
     ]
 
+-- an edge is walked from the end at which it is entered to the other
+leads_by : (way : Way) (edges : List Edge) (a c : ℕ) → list_any (λ e. nat_eq (from_of way e) a && nat_eq (to_of way e) c) edges ≡ leads way edges a c
+leads_by Down edges a c = refl
+leads_by Up edges a c = ap (λ (q : Edge → Bool). list_any q edges) (λ i e. and_comm (nat_eq e.head.0 a) (nat_eq e.tail.0 c) i)
+
 pub leads_members : (way : Way) (chosen failed : Set) (n m : ℕ) (edges : List Edge) (a c : ℕ) → ((e : ℕ) → IsTrue (has chosen e) → e < length edges) → length edges ≤ m
     → list_any (joins_by way edges failed n a c) (members_below chosen m) ≡ leads way (live chosen failed n edges) a c
 leads_members way chosen failed n m edges a c small few =
@@ -165,6 +173,7 @@ leads_members way chosen failed n m edges a c small few =
     any_of by (members_below chosen m) e.0 (is_in-members chosen m e.0 on (omega (arith, short)))
     (and_both (not (has failed (n + e.0))) (q (item e.0)) (and_right (has chosen e.0) (not (has failed (n + e.0))) up) (and_right (live_at e.0) (q (item e.0)) e.2)))
     ∙ sym (any_chosen q live_at blank_edge item 0 edges (λ i h. let same : 0 + i ≡ i = omega arith in ap item same))
+    ∙ leads_by way (live chosen failed n edges) a c
 
 module _ (way : Way) (edges : List Edge) (failed : Set) (n : ℕ) (rows after : List Set) (yielded : List EdgeId) (e : EdgeId)
     (so_far : (a c : ℕ) → is_next rows a c ≡ list_any (joins_by way edges failed n a c) (map (λ x. x.0) yielded)) where

@@ -4,7 +4,8 @@ ghost use Rattle.std.specs.List.{All};
 ghost use Rattle.arch_model.specs.Set as set;
 ghost use Rattle.arch_model.specs.Architecture.{IsArchitecture};
 ghost use Rattle.arch_model.specs.Path.{live_edges};
-ghost use Rattle.paths.specs.Inner.Spread.{from_of, to_of, leads, live, is_next};
+ghost use Rattle.paths.specs.Inner.Spread.{from_of, to_of, leads, live};
+ghost use Rattle.paths.specs.Links.{is_next};
 
 use arch_model::limits::{COMPONENTS, EDGES};
 use arch_model::{Architecture, CompId, CompSet, Edge, EdgeSet, Library, MemberSet, VarId};

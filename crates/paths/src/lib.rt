@@ -25,6 +25,7 @@ mod standing;
 
 pub use links::{Links, ancestors_over, links_of, reach_over};
 pub use reaching::{ancestors, parted, reach};
+pub use standing::is_source;
 
 #[cfg(test)]
 mod tests;

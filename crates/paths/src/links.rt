@@ -5,8 +5,7 @@ ghost use Rattle.arch_model.specs.Set as set;
 ghost use Rattle.arch_model.specs.Architecture.{IsArchitecture};
 ghost use Rattle.arch_model.specs.Path.{IsPath, LeadsTo};
 ghost use Rattle.arch_model.specs.declared.limits.TheConstants.{COMPONENTS};
-ghost use Rattle.paths.specs.Inner.Spread.{is_next};
-ghost use Rattle.paths.specs.Inner.Links.{AreLinks};
+ghost use Rattle.paths.specs.Links.{is_next, AreLinks};
 
 use crate::adjacency::{Way, live_rows};
 use crate::searching::{leading_to, reached_from_sources};

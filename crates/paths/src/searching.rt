@@ -2,9 +2,8 @@
 ghost use Rattle.std.specs.Prelude.{◌≡◌, ℕ, ◌<◌, ◌↔◌, ◌∷◌, IsTrue, List, length};
 ghost use Rattle.arch_model.specs.Set as set;
 ghost use Rattle.arch_model.specs.Architecture.{IsArchitecture};
-ghost use Rattle.arch_model.specs.Path.{IsPath, LeadsTo, live_edges};
-ghost use Rattle.paths.specs.declared.adjacency.Way.TheVariants.{Down, Up};
-ghost use Rattle.paths.specs.Inner.Spread.{is_next, leads};
+ghost use Rattle.arch_model.specs.Path.{IsPath, LeadsTo, live_edges, joins};
+ghost use Rattle.paths.specs.Links.{is_next};
 
 use crate::spreading::closure;
 use crate::standing::{outside, sources};
@@ -20,7 +19,7 @@ pub(crate) fn reached_from_sources(
 ) -> CompSet
     requires architecture { IsArchitecture lib.now arch.now }
     requires rows { (a : ℕ) (c : ℕ) → is_next down.now a c
-        ≡ leads Down (live_edges lib.now arch.now (set.has failed.now)) a c }
+        ≡ joins (live_edges lib.now arch.now (set.has failed.now)) a c }
     ensures { (c : ℕ) → IsTrue (set.has result c)
         ↔ ((path : List ℕ) × IsPath lib.now arch.now c (set.has failed.now) path) }
 {
@@ -39,7 +38,7 @@ pub(crate) fn leading_to(
     requires architecture { IsArchitecture lib.now arch.now }
     requires in_range { sink.0 < length lib.now.components }
     requires rows { (a : ℕ) (c : ℕ) → is_next up.now a c
-        ≡ leads Up (live_edges lib.now arch.now (set.has failed.now)) a c }
+        ≡ joins (live_edges lib.now arch.now (set.has failed.now)) c a }
     ensures { (c : ℕ) → IsTrue (set.has result c)
         ↔ ((rest : List ℕ) × LeadsTo lib.now arch.now sink.0 (set.has failed.now) (c ∷ rest)) }
 {

@@ -3,7 +3,7 @@ ghost use Rattle.std.specs.Prelude.{◌≡◌, ℕ, ◌<◌, ◌&&◌, ◌||◌,
 ghost use Rattle.std.specs.List.{list_any};
 ghost use Rattle.arch_model.specs.Set as set;
 ghost use Rattle.arch_model.specs.Inner.Walks.{IsWalk};
-ghost use Rattle.paths.specs.Inner.Spread.{is_next};
+ghost use Rattle.paths.specs.Links.{is_next};
 
 use arch_model::CompSet;
 use arch_model::limits::COMPONENTS;

@@ -1,23 +1,30 @@
 // Which components stand, and which of them are sources.
 ghost use Rattle.std.specs.Prelude.{◌≡◌, ℕ, ◌<◌, ◌≤◌, ◌&&◌, not, length, IsTrue};
 ghost use Rattle.arch_model.specs.Set as set;
-ghost use Rattle.arch_model.specs.Path.{is_source, is_source_role};
+ghost use Rattle.arch_model.specs.Path as path;
 ghost use Rattle.arch_model.specs.declared.limits.TheConstants.{COMPONENTS};
 
 use arch_model::limits::COMPONENTS;
 use arch_model::{CompId, CompSet, Component, Library, MemberSet, Role, VarId};
 
+/// Whether a component is a source, where paths begin.
+pub fn is_source(component: &Component) -> bool
+    ensures { result ≡ path.is_source_role component.now.role }
+{
+    matches!(component.role, Role::Source)
+}
+
 // Whether a component that is up is a source.
 fn is_live_source(up: &CompSet, c: CompId, component: &Component) -> bool
-    ensures { result ≡ (set.has up.now c.0 && is_source_role component.now.role) }
+    ensures { result ≡ (set.has up.now c.0 && path.is_source_role component.now.role) }
 {
-    up.has(c) && matches!(component.role, Role::Source)
+    up.has(c) && is_source(component)
 }
 
 // The sources that are up.
 pub(crate) fn sources(lib: &Library, up: &CompSet) -> CompSet
     requires { (c : ℕ) → IsTrue (set.has up.now c) → c < length lib.now.components }
-    ensures { (c : ℕ) → set.has result c ≡ (set.has up.now c && is_source lib.now c) }
+    ensures { (c : ℕ) → set.has result c ≡ (set.has up.now c && path.is_source lib.now c) }
 {
     let mut found = CompSet::new();
     for (i, component) in lib.components().iter().enumerate() {

@@ -6,13 +6,14 @@ use crate::cut_row::{no_good_row, redundancy_row};
 use crate::right::is_right_redundancy;
 use arch_model::limits::{COMPONENTS, EDGES, MEMBERS};
 use arch_model::{
-    Architecture, CompId, CompSet, Component, Edge, EdgeId, EdgeSet, Library, LinkRow, MemberSet,
-    Memory, Name, Requirement, Role, Template, TypeRow, VarId, is_library,
+    Architecture, CompId, CompSet, EdgeId, EdgeSet, Library, LinkRow, MemberSet, Memory, Name,
+    Requirement, Role, TypeRow, VarId, is_library,
 };
 use rows::CutRow;
 use std::alloc::Global;
 use std::process::Abort;
 use std::test::Fail;
+use template::{expand, has_few_components};
 
 // A type whose instances fail this often, in parts per million.
 fn row(name: &str, role: Role, max: u32, fail: u32) -> TypeRow
@@ -29,28 +30,6 @@ fn row(name: &str, role: Role, max: u32, fail: u32) -> TypeRow
     }
 }
 
-// Instance `index` of type number `of`.
-fn instance(row: &TypeRow, of: u32, index: u32) -> Component {
-    Component {
-        of,
-        index,
-        role: row.role,
-        cost: 0,
-        supply: 0,
-        demand: 0,
-        fail: row.fail,
-    }
-}
-
-fn edge(tail: u32, head: u32) -> Edge {
-    Edge {
-        tail: CompId(tail),
-        head: CompId(head),
-        cost: 0,
-        fail: 0,
-    }
-}
-
 fn link(from: u32, to: u32) -> LinkRow {
     LinkRow {
         from,
@@ -60,41 +39,19 @@ fn link(from: u32, to: u32) -> LinkRow {
     }
 }
 
-// The template of two generators, two buses and a load.
-fn template(
-    alloc: Global,
-    source: &TypeRow,
-    bus: &TypeRow,
-    load: &TypeRow,
-) -> Result<Template, Memory> {
-    let components = [
-        instance(source, 0, 1),
-        instance(source, 0, 2),
-        instance(bus, 1, 1),
-        instance(bus, 1, 2),
-        instance(load, 2, 1),
-    ];
-    let edges = [
-        edge(0, 2),
-        edge(0, 3),
-        edge(1, 2),
-        edge(1, 3),
-        edge(2, 4),
-        edge(3, 4),
-    ];
-    Ok(Template::new(components.to_vec(alloc)?, edges.to_vec(alloc)?))
-}
-
 // Two generators, two buses and a load: components 0 to 4. 5 to 8 are the edges from a generator to
 // a bus, 9 and 10 those from a bus to the load. Edges never fail.
 fn two_buses(rt: &(impl Abort + AllocGlobal)) -> Result<Library, Memory> {
     let alloc = rt.alloc();
-    let source = row("gen", Role::Source, 2, 1000);
-    let bus = row("bus", Role::Middle, 2, 100);
-    let load = row("load", Role::Sink, 1, 100);
-    let template = template(alloc, &source, &bus, &load)?;
-    let types = [source, bus, load].to_vec(alloc)?;
+    let types = [
+        row("gen", Role::Source, 2, 1000),
+        row("bus", Role::Middle, 2, 100),
+        row("load", Role::Sink, 1, 100),
+    ]
+    .to_vec(alloc)?;
     let links = [link(0, 1), link(1, 2)].to_vec(alloc)?;
+    assert!(rt; has_few_components(&types));
+    let template = expand(alloc, &types, &links)?;
     let patterns = Vec::new(alloc);
     let requirements = Vec::new(alloc);
     assert!(rt; is_library(&types, &links, &template, &patterns, &requirements));

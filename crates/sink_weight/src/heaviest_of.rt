@@ -4,8 +4,9 @@ ghost use Rattle.arch_model.specs.Architecture.{IsArchitecture};
 ghost use Rattle.arch_model.specs.CutSet.{IsMinimalCutSet};
 ghost use Rattle.arch_model.specs.Weight.{product_of, IsHeaviest};
 
-use arch_model::{Architecture, CompId, Library, product};
-use cut_sets::{CutSets, Members};
+use crate::one_pass::weigh;
+use arch_model::{Architecture, CompId, Library};
+use cut_sets::Members;
 use std::alloc::Global;
 
 /// The minimal cut set of greatest product; of several the least member list. None where every
@@ -16,14 +17,5 @@ pub fn heaviest(alloc: Global, lib: &Library, arch: &Architecture, sink: CompId)
     ensures none { IsNone result
         ↔ ((members : List ℕ) → IsMinimalCutSet lib.now arch.now sink.0 members → product_of lib.now members ≡ 0) }
 {
-    let mut best = None;
-    let mut most = 0;
-    for members in CutSets::new(alloc, lib, arch, sink) {
-        let value = product(lib, members.as_slice());
-        if most < value {
-            most = value;
-            best = Some(members);
-        }
-    }
-    best
+    weigh(alloc, lib, arch, sink).heaviest
 }

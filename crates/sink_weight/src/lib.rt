@@ -2,9 +2,9 @@
 //!
 //! The weight of a sink is the sum of the products of all its minimal cut sets, in units of
 //! 10^-18. Under independent failures it bounds the probability that the sink is parted from all
-//! sources from above (Boole's bound, textbook). `weight` answers it exactly, `heaviest` the minimal
-//! cut set of greatest product, and `weigh` both in one pass. None takes memory: each goes once over
-//! the minimal cut sets of positive product, and keeps none but the best.
+//! sources from above (Boole's bound, textbook). `weigh` answers it exactly, and with it the minimal
+//! cut set of greatest product. It takes no memory: it goes once over the minimal cut sets of
+//! positive product, and keeps none but the best. `weight` and `heaviest` are its two parts.
 //!
 //! Stands on `cut_sets`.
 #![tactic(auto)]

@@ -1,5 +1,5 @@
 // The weight of a sink and its heaviest minimal cut set, in one pass.
-ghost use Rattle.std.specs.Prelude.{◌≡◌, ℕ, ◌↔◌, List, map, IfSome, IsNone};
+ghost use Rattle.std.specs.Prelude.{◌≡◌, ℕ, ◌≤◌, ◌*◌, ◌^◌, ◌↔◌, List, map, IfSome, IsNone};
 ghost use Rattle.arch_model.specs.Architecture.{IsArchitecture};
 ghost use Rattle.arch_model.specs.CutSet.{IsMinimalCutSet};
 ghost use Rattle.arch_model.specs.Weight.{product_of, weight_of, IsHeaviest};
@@ -18,10 +18,12 @@ pub struct Weighed {
     pub heaviest: Option<Members>,
 }
 
-/// What `weight` and `heaviest` answer, in one pass. The architecture must fit the library.
+/// The weight of a sink and its heaviest minimal cut set, in one pass over its minimal cut sets. The
+/// architecture must fit the library.
 pub fn weigh(alloc: Global, lib: &Library, arch: &Architecture, sink: CompId) -> Weighed
     requires { IsArchitecture lib.now arch.now }
     ensures weight { result.weight ≡ weight_of lib.now arch.now sink.0 }
+    ensures small { result.weight ≤ 2 ^ 64 * 10 ^ 18 }
     ensures some { IfSome result.heaviest (λ m. IsHeaviest lib.now arch.now sink.0 (map (λ v. v.0) m.items)) }
     ensures none { IsNone result.heaviest
         ↔ ((members : List ℕ) → IsMinimalCutSet lib.now arch.now sink.0 members → product_of lib.now members ≡ 0) }

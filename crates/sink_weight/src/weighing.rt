@@ -3,8 +3,8 @@ ghost use Rattle.std.specs.Prelude.{◌≡◌, ◌≤◌, ◌*◌, ◌^◌};
 ghost use Rattle.arch_model.specs.Architecture.{IsArchitecture};
 ghost use Rattle.arch_model.specs.Weight.{weight_of};
 
-use arch_model::{Architecture, CompId, Library, product};
-use cut_sets::CutSets;
+use crate::one_pass::weigh;
+use arch_model::{Architecture, CompId, Library};
 use std::alloc::Global;
 
 /// The weight of a sink in units of 10^-18: the sum of the products of its minimal cut sets. An
@@ -15,9 +15,5 @@ pub fn weight(alloc: Global, lib: &Library, arch: &Architecture, sink: CompId) -
     ensures value { result ≡ weight_of lib.now arch.now sink.0 }
     ensures small { result ≤ 2 ^ 64 * 10 ^ 18 }
 {
-    let mut total = 0;
-    for members in CutSets::new(alloc, lib, arch, sink) {
-        total += product(lib, members.as_slice()) as u128;
-    }
-    total
+    weigh(alloc, lib, arch, sink).weight
 }

@@ -6,7 +6,7 @@ use Rattle.arch_model.specs.Parts.{LibraryParts, ArchitectureParts}
 use Rattle.arch_model.specs.Architecture.{IsArchitecture}
 use Rattle.arch_model.specs.Set.{Set, has}
 use Rattle.arch_model.specs.Inner.Sets.{members_from}
-use Rattle.arch_model.specs.Member.{member_count, is_present, fail_of}
+use Rattle.arch_model.specs.Member.{is_in, member_count, is_present, fail_of}
 use Rattle.arch_model.specs.CutSet.{nonempty_sublists, is_minimal_cut_set}
 use Rattle.arch_model.specs.Weight.{product_of}
 
@@ -67,6 +67,12 @@ AreChosen net count low (c ∷ cs) at =
 -- a place at which an enumeration may stand
 abbrev pub IsPlace : NetworkParts → PlaceParts → Type 0
 IsPlace net place = AreChosen net 0 0 place.chosen place.at
+
+-- a set of candidates that has those chosen and all that are not decided
+pub record IsWide (net : NetworkParts) (place : PlaceParts) (wide : Set) : Type 0 where
+  pub chosen : (v : ℕ) → IsTrue (is_in place.chosen v) → IsTrue (has wide v)
+  pub candidates : (v : ℕ) → IsTrue (is_in (candidates_from net place.at) v) → IsTrue (has wide v)
+  pub inside : (v : ℕ) → IsTrue (has wide v) → IsTrue (has net.candidates v)
 
 -- a bound on the steps that are left after some chosen members, and from a place on
 abbrev pub steps_after : NetworkParts → List ℕ → ℕ

@@ -6,7 +6,7 @@ use Rattle.arch_model.specs.Library.{IsLibrary}
 use Rattle.arch_model.specs.Architecture.{IsArchitecture}
 use Rattle.arch_model.specs.Member.{member_count}
 use Rattle.arch_model.specs.Path.{parts}
-use Rattle.paths.specs.Inner.Links.{AreLinks}
+use Rattle.paths.specs.Links.{AreLinks}
 use Rattle.fail_mass.specs.declared.network.Network.{Network}
 use Rattle.fail_mass.specs.Inner.Cases.{enclosure_with}
 

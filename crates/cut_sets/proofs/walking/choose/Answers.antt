@@ -1,18 +1,10 @@
 use Rattle.std.proofs.Common.{◌∷◌, ◌∙◌, sym, ap, true, false}
 use Rattle.cut_sets.specs.Inner.Upcoming.{sets_from}
-use Rattle.cut_sets.proofs.Steps.{room, members_small, more_place, more_turn, skipped_place, skipped_turn, given_turn, with_one, with_candidates, cut_on_set, minimal_is}
+use Rattle.cut_sets.proofs.Steps.{room, members_small, more_place, more_turn, skipped_place, skipped_turn, given_turn, with_one, cut_on_set, minimal_is}
 use Rattle.cut_sets.proofs.walking.choose.Goals as goal
 
 pub set-chosen-requires : goal.set-chosen-requires
 set-chosen-requires c = members_small c.args.net.now c.requires.network c.args.place.now c.requires.place
-
-pub cuts-requires : goal.cuts-requires
-cuts-requires c = with_candidates c.args.net.now c.requires.network c.args.place.now c.requires.place c.args.v.0 c.requires.candidates c.put.new.self
-    (with_one c.args.net.now c.requires.network c.args.place.now c.requires.place c.args.v.0 c.requires.candidates c.set-chosen.result c.put.new.self c.set-chosen.ensures c.put.ensures)
-
-pub is_minimal-requires : goal.is_minimal-requires
-is_minimal-requires c = with_candidates c.args.net.now c.requires.network c.args.place.now c.requires.place c.args.v.0 c.requires.candidates c.put.new.self
-    (with_one c.args.net.now c.requires.network c.args.place.now c.requires.place c.args.v.0 c.requires.candidates c.set-chosen.result c.put.new.self c.set-chosen.ensures c.put.ensures)
 
 pub choose-requires : goal.choose-requires
 choose-requires c = room c.args.net.now c.requires.network c.args.place.now c.requires.place c.args.v.0 c.requires.candidates

@@ -1,7 +1,7 @@
 use Rattle.std.proofs.Common.{◌≡◌, ℕ, length, map}
 use Rattle.std.specs.List.{list_any}
 use Rattle.arch_model.specs.declared.limits.TheConstants.{COMPONENTS}
-use Rattle.paths.specs.Inner.Spread.{is_next}
+use Rattle.paths.specs.Links.{is_next}
 use Rattle.paths.proofs.SpreadLaws.{joins_by}
 use Rattle.paths.proofs.adjacency.rows_of.Given as goal
 

@@ -3,7 +3,7 @@ use Rattle.arch_model.specs.declared.limits.TheConstants.{COMPONENTS}
 use Rattle.arch_model.specs.Set.{has}
 use Rattle.arch_model.specs.Member.{is_in}
 use Rattle.arch_model.specs.Path.{reached_within}
-use Rattle.paths.specs.Inner.Spread.{is_next}
+use Rattle.paths.specs.Links.{is_next}
 use Rattle.paths.proofs.SpreadLaws.{numbers_below}
 use Rattle.paths.proofs.spreading.closure.Given as goal
 

@@ -5,7 +5,7 @@ use Rattle.arch_model.specs.declared.limits.TheConstants.{COMPONENTS}
 use Rattle.arch_model.specs.declared.sets.CompId.{CompId}
 use Rattle.arch_model.specs.Set.{has, members_below}
 use Rattle.arch_model.proofs.SetLaws.{has-empty}
-use Rattle.paths.specs.Inner.Spread.{is_next}
+use Rattle.paths.specs.Links.{is_next}
 use Rattle.paths.proofs.SpreadLaws.{entered_is, member_at, enter_one}
 use Rattle.paths.proofs.spreading.entered.Goals as goal
 

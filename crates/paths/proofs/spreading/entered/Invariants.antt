@@ -1,7 +1,7 @@
 use Rattle.std.proofs.Common.{◌≡◌, ℕ, map}
 use Rattle.std.specs.List.{list_any}
 use Rattle.arch_model.specs.Set.{has}
-use Rattle.paths.specs.Inner.Spread.{is_next}
+use Rattle.paths.specs.Links.{is_next}
 use Rattle.paths.proofs.spreading.entered.Given as goal
 
 abbrev pub invariant-loop-a : goal.invariant-loop-a

@@ -75,3 +75,9 @@ returns-clause-some c = heaviest_some c.args.lib.now c.args.arch.now c.requires 
 
 pub returns-clause-none : goal.returns-clause-none
 returns-clause-none c = heaviest_none c.args.lib.now c.args.arch.now c.requires c.args.sink.0 c.loop-members.best c.loop-members.most c.loop-members.members-iterator c.in-None.ensures.steps.0 (c.loop-members.invariant.best c.requires)
+
+pub returns-clause-small : goal.returns-clause-small
+returns-clause-small c =
+    let most = weight-le c.args.lib.now c.new-members-items.ensures.library c.args.arch.now c.args.sink.0 in
+    let whole = c.loop-members.invariant.sum in
+    omega (arith, most, whole)

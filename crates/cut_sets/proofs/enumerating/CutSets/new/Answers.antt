@@ -1,13 +1,8 @@
-use Rattle.std.proofs.Common.{◌≡◌, ◌∙◌, sym, ap, true, false, inl, inr}
-use Rattle.arch_model.specs.Set.{has}
-use Rattle.arch_model.proofs.SetLaws.{has-empty}
+use Rattle.std.proofs.Common.{◌∙◌, inl, inr}
 use Rattle.cut_sets.specs.CutSets.{cut_sets_of}
 use Rattle.cut_sets.proofs.Starts.{start_is, start_place}
 use Rattle.cut_sets.proofs.enumerating.CutSets.new.Goals as goal
 use Rattle.cut_sets.proofs.enumerating.CutSets.new.Goals.{then-first, else-first}
-
-pub cuts-first-requires : goal.cuts-first-requires
-cuts-first-requires c v h = absurd (let e : false ≡ true = sym (has-empty v) ∙ sym (ap (λ s. has s v) c.new.ensures) ∙ h in cc)
 
 pub invariant_of-result : goal.invariant_of-result
 invariant_of-result c = (

@@ -4,8 +4,6 @@ use Rattle.arch_model.specs.declared.limits.TheConstants.{MEMBERS}
 use Rattle.arch_model.specs.Member.{is_in}
 use Rattle.arch_model.specs.Path.{parts}
 use Rattle.arch_model.specs.Set.{Set, has, minus, put}
-use Rattle.arch_model.proofs.Members.{and_left}
-use Rattle.arch_model.proofs.SetLaws.{has-minus}
 use Rattle.cut_sets.proofs.Beyond.{and_yes}
 use Rattle.cut_sets.proofs.Places.{below_high}
 use Rattle.cut_sets.proofs.Loops.{first_in, later_in}
@@ -22,10 +20,6 @@ loop-v-init c =
 
 pub put-requires : goal.put-requires
 put-requires c = c.loop-v.invariant.low c.in-Some.v.0 (first_in c.loop-v.v-iterator c.next.new.self c.in-Some.v.0 c.in-Some.ensures.steps)
-
-pub cuts-requires : goal.cuts-requires
-cuts-requires c d h =
-    c.requires d (and_left (has c.args.members.now d) _ (sym (ap (λ (x : Set). has x d) c.minus.ensures ∙ has-minus c.args.members.now c.put.new.self d) ∙ h))
 
 pub loop-v-preserved : goal.loop-v-preserved
 loop-v-preserved c =

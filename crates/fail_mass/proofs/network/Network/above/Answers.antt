@@ -1,4 +1,4 @@
-use Rattle.fail_mass.proofs.NetworkLemmas.{links_of_all}
+use Rattle.paths.proofs.LinkLaws.{links_of_all}
 use Rattle.fail_mass.proofs.network.Network.above.Goals as goal
 
 pub ancestors_over-requires-clause-links : goal.ancestors_over-requires-clause-links

@@ -1,4 +1,4 @@
-use Rattle.fail_mass.proofs.NetworkLemmas.{links_of_all}
+use Rattle.paths.proofs.LinkLaws.{links_of_all}
 use Rattle.fail_mass.proofs.network.Network.reached.Goals as goal
 
 pub reach_over-requires-clause-links : goal.reach_over-requires-clause-links
