@@ -1,5 +1,5 @@
 -- The ascent, row after row.
-use Rattle.std.proofs.Common.{◌≡◌, ◌≢◌, ℕ, zero, suc, ◌+◌, ◌^◌, ◌<◌, ◌≤◌, min, pos, int_lt, Bool, true, false, cond, not, ◌&&◌, nat_lt, nat_le, List, [], ◌∷◌, ◌++◌, map, fold, drop, set, replicate, length, get_or, slice_get, Option, Some, None, IfSome, IsTrue, is_some, option_map, refl, sym, ap, subst, ◌∙◌, arith, inl, inr}
+use Rattle.std.proofs.Common.{◌≡◌, ◌≢◌, ℕ, zero, suc, ◌+◌, ◌^◌, ◌<◌, ◌≤◌, min, pos, int_lt, Bool, true, false, cond, not, ◌&&◌, nat_lt, nat_le, List, [], ◌∷◌, ◌++◌, map, fold, drop, set, replicate, length, get_or, slice_get, Option, Some, None, IfSome, IsTrue, IsSome, is_some, option_map, refl, sym, ap, subst, ◌∙◌, arith, inl, inr}
 use Rattle.std.specs.Prelude.{filter_map, slice_index}
 use Rattle.std.specs.List.{All, AllByRecursion, enumerate_from, cons_option}
 use Rattle.std.proofs.lemmas.Bool.{lt-ltb, cases_lt}
@@ -16,12 +16,13 @@ use Rattle.arch_model.specs.declared.limits.TheConstants.{MEMBERS}
 use Rattle.rows.specs.declared.row.Term.{Term}
 use Rattle.rows.specs.declared.known.Pair.{Pair}
 use Rattle.rows.specs.declared.known.RowRef.{RowRef}
-use Rattle.rows.specs.declared.known.RowRef.TheVariants.{Base, Cut}
+use Rattle.rows.specs.declared.known.RowRef.TheVariants.{Base, Cut, Cost}
 use Rattle.rows.specs.Parts.{RowParts, CutParts, CubeParts, KnownParts}
 use Rattle.rows.specs.Row.{IsRowBelow, row_of_cut, value_of, coef_at}
 use Rattle.rows.specs.Cube.{IsFull, value_at, fixed_at}
 use Rattle.rows.specs.Activity.{is_refuted}
-use Rattle.rows.specs.BaseRows.{member_cost_of, costs_of}
+use Rattle.rows.specs.BaseRows.{member_cost_of, costs_of, cost_row_of}
+use Rattle.rows.specs.Reason.{AllThere}
 use Rattle.rows.specs.Known.{variables, known_cuts, has_row, row_at, IsKnown, IsCutBelow}
 use Rattle.rows.specs.Ascent.{Ascent, quotient_at, times_of, left_of, is_worth, with_row, looked_at, ascent_start, whole_ascent}
 use Rattle.rows.proofs.CubeLaws.{activity_is_value}
@@ -134,6 +135,42 @@ map_some f None h = h
 
 pub has_cut : (known : KnownParts) (j : ℕ) → IsKnown known → j < known.upto → IsTrue (has_row known (Cut j))
 has_cut known j is short = map_some row_of_cut (slice_get (known_cuts known) j) (some_is (known_cuts known) j (omega (arith, length-take known.upto known.cuts, is.upto, short)))
+
+-- all rows of an ascent are there, the cost row where there is a bound
+base_there : (known : KnownParts) (xs : List RowParts) (i : ℕ) → ((k : ℕ) → i ≤ k → k < i + length xs → IsTrue (has_row known (Base k)))
+    → AllByRecursion (λ (p : RowRef × RowParts). IsTrue (has_row known p.0)) (map (λ p. (Base p.0, p.1)) (enumerate_from i xs))
+base_there known [] i each = tt
+base_there known (x ∷ xs) i each = (each i (omega arith) (omega arith), base_there known xs (i + 1) (λ k low high. each k (omega (arith, low)) (omega (arith, high))))
+
+cuts_there : (known : KnownParts) (xs : List CutParts) (j : ℕ) → ((k : ℕ) → j ≤ k → k < j + length xs → IsTrue (has_row known (Cut k)))
+    → AllByRecursion (λ (p : RowRef × RowParts). IsTrue (has_row known p.0)) (map (λ p. (Cut p.0, row_of_cut p.1)) (enumerate_from j xs))
+cuts_there known [] j each = tt
+cuts_there known (x ∷ xs) j each = (each j (omega arith) (omega arith), cuts_there known xs (j + 1) (λ k low high. each k (omega (arith, low)) (omega (arith, high))))
+
+either_there : (known : KnownParts) (b : Bool) (x y : Ascent) → AllThere known x.pairs → AllThere known y.pairs → AllThere known (cond b x y).pairs
+either_there known true x y h k = h
+either_there known false x y h k = k
+
+fold_there : (known : KnownParts) (cube : CubeParts) (named : List (RowRef × RowParts)) (a : Ascent) → AllByRecursion (λ p. IsTrue (has_row known p.0)) named → AllThere known a.pairs → AllThere known (fold (looked_at cube) a named).pairs
+fold_there known cube [] a all there = there
+fold_there known cube (p ∷ named) a all there =
+    let k = times_of cube a.residue p.1 in
+    fold_there known cube named (looked_at cube a p) all.1
+    (either_there known (nat_lt (length a.pairs) 64 && is_worth cube p.1 k) (with_row a p.0 p.1 k) a (All-push (λ (q : Pair). IsTrue (has_row known q.row)) a.pairs (record { row = p.0; times = k }) there all.0) there)
+
+cost_there : (known : KnownParts) → IsSome known.bound → AllThere known (ascent_start known).pairs
+cost_there known some = All-push (λ (q : Pair). IsTrue (has_row known q.row)) [] (record { row = Cost; times = 1 }) (λ i d short. absurd (omega arith)) (map_some (cost_row_of known.problem.library) known.bound some)
+
+pub whole_there : (known : KnownParts) (cube : CubeParts) (pairs : List Pair) → pairs ≡ (whole_ascent known cube).pairs → IsSome known.bound → AllThere known pairs
+whole_there known cube pairs same some =
+    let P : Ascent → Type 0 = λ a. AllThere known a.pairs in
+    let base : AllThere known (fold (looked_at cube) (ascent_start known) (base_named known)).pairs =
+    fold_there known cube (base_named known) (ascent_start known) (base_there known known.problem.base 0 (λ k low high. has_base known k (omega (arith, high)))) (cost_there known some) in
+    let both : AllThere known (fold (looked_at cube) (fold (looked_at cube) (ascent_start known) (base_named known)) (cuts_named known)).pairs =
+    fold_there known cube (cuts_named known) _ (cuts_there known (known_cuts known) 0 (λ k low high. map_some row_of_cut (slice_get (known_cuts known) k) (some_is (known_cuts known) k (omega (arith, high))))) base in
+    let whole : AllThere known (whole_ascent known cube).pairs = subst P (sym (fold_append (looked_at cube) (ascent_start known) (base_named known) (cuts_named known))) both in
+    let Q : List Pair → Type 0 = AllThere known in
+    subst Q (sym same) whole
 
 -- base rows and cuts, from the option that has them
 module _ (known : KnownParts) (cube zeros : CubeParts) (ready : IsPrepared known cube zeros) where

@@ -7,4 +7,4 @@ use Rattle.row_bounds.specs.declared.bounded.Bounded.TheVariants.{Refuted, Open}
 -- the reason for which a cube is dropped, where one was found
 abbrev pub reason_in : Bounded → Option (List Pair)
 reason_in (Refuted reason) = Some reason
-reason_in (Open residues) = None
+reason_in (Open spent) = None

@@ -9,10 +9,10 @@ ghost use Rattle.rows.specs.BaseRows.{member_cost_of};
 ghost use Rattle.rows.specs.Ascent as formal;
 ghost use Rattle.row_bounds.specs.Inner.Climb.{Follows, IsRising, IsPrepared, base_named, cuts_named};
 
+use crate::shortlist::Shortlist;
 use crate::spending::{
     free_of_cut, helpers_of_row, spend_cut, spend_row, times_of_cut, times_of_row,
 };
-use crate::unmet::Unmet;
 use arch_model::limits::MEMBERS;
 use arch_model::{Library, Memory, VarId};
 use rows::{Cube, Known, Pair, RowRef, member_cost, refuted, variable_count};
@@ -71,7 +71,7 @@ fn look_at_base(
     i: u32,
     cube: &Cube,
     zeros: &Cube,
-    unmet: &mut Unmet,
+    list: &mut Shortlist,
     rising: &mut Rising,
 )
     requires prepared { IsPrepared (parts_of known.now) cube.now zeros.now }
@@ -90,7 +90,7 @@ fn look_at_base(
         return;
     }
     let row = &known.problem.base()[i as usize];
-    unmet.note(name, helpers_of_row(row, cube));
+    list.note(name, helpers_of_row(row, cube));
     if rising.is_full() {
         return;
     }
@@ -108,7 +108,7 @@ fn look_at_cut(
     j: u32,
     cube: &Cube,
     zeros: &Cube,
-    unmet: &mut Unmet,
+    list: &mut Shortlist,
     rising: &mut Rising,
 )
     requires prepared { IsPrepared (parts_of known.now) cube.now zeros.now }
@@ -127,7 +127,7 @@ fn look_at_cut(
         return;
     }
     let cut = known.cuts.get(j);
-    unmet.note(name, free_of_cut(&cut, cube).len() as usize);
+    list.note(name, free_of_cut(&cut, cube).len() as usize);
     if rising.is_full() {
         return;
     }
@@ -140,7 +140,7 @@ fn look_at_cut(
 }
 
 // Looks at all base rows, by number.
-fn climb_base(known: &Known, cube: &Cube, zeros: &Cube, unmet: &mut Unmet, rising: &mut Rising)
+fn climb_base(known: &Known, cube: &Cube, zeros: &Cube, list: &mut Shortlist, rising: &mut Rising)
     requires prepared { IsPrepared (parts_of known.now) cube.now zeros.now }
     requires rising { IsRising (parts_of known.now) rising.old.pairs.items rising.old.residue }
     requires room { vec_capacity rising.old.pairs ≡ 64 }
@@ -151,12 +151,12 @@ fn climb_base(known: &Known, cube: &Cube, zeros: &Cube, unmet: &mut Unmet, risin
         (fold (formal.looked_at cube.now) a (base_named (parts_of known.now))) }
 {
     for i in 0..known.problem.base().len() as u32 {
-        look_at_base(known, i, cube, zeros, unmet, rising);
+        look_at_base(known, i, cube, zeros, list, rising);
     }
 }
 
 // Looks at all cuts that are known, by number.
-fn climb_cuts(known: &Known, cube: &Cube, zeros: &Cube, unmet: &mut Unmet, rising: &mut Rising)
+fn climb_cuts(known: &Known, cube: &Cube, zeros: &Cube, list: &mut Shortlist, rising: &mut Rising)
     requires prepared { IsPrepared (parts_of known.now) cube.now zeros.now }
     requires rising { IsRising (parts_of known.now) rising.old.pairs.items rising.old.residue }
     requires room { vec_capacity rising.old.pairs ≡ 64 }
@@ -167,7 +167,7 @@ fn climb_cuts(known: &Known, cube: &Cube, zeros: &Cube, unmet: &mut Unmet, risin
         (fold (formal.looked_at cube.now) a (cuts_named (parts_of known.now))) }
 {
     for j in 0..known.upto {
-        look_at_cut(known, j, cube, zeros, unmet, rising);
+        look_at_cut(known, j, cube, zeros, list, rising);
     }
 }
 
@@ -193,7 +193,7 @@ pub(crate) fn climb(
     alloc: Global,
     known: &Known,
     cube: &Cube,
-    unmet: &mut Unmet,
+    list: &mut Shortlist,
 ) -> Result<Rising, Memory>
     requires { IsKnown (parts_of known.now) }
     ensures rising { IfOk result (λ r. IsRising (parts_of known.now) r.pairs.items r.residue) }
@@ -202,7 +202,7 @@ pub(crate) fn climb(
 {
     let zeros = with_zeros(known, cube);
     let mut rising = begin(alloc, known)?;
-    climb_base(known, cube, &zeros, unmet, &mut rising);
-    climb_cuts(known, cube, &zeros, unmet, &mut rising);
+    climb_base(known, cube, &zeros, list, &mut rising);
+    climb_cuts(known, cube, &zeros, list, &mut rising);
     Ok(rising)
 }

@@ -1,5 +1,5 @@
 // What the bounds say of a cube.
-use crate::residues::Residues;
+use arch_model::MemberSet;
 use rows::Reason;
 
 /// What the bounds say of a cube.
@@ -7,7 +7,7 @@ use rows::Reason;
 pub enum Bounded {
     /// No vector of the cube that meets the known rows is cheaper than the bound, for this reason.
     Refuted(Reason),
-    /// No reason was found. What the stronger candidate leaves of each variable's cost, in
-    /// thousandths of cost units, says where to branch.
-    Open(Residues),
+    /// No reason was found. These are the variables of whose cost the stronger candidate leaves
+    /// nothing, which says where to branch.
+    Open(MemberSet),
 }

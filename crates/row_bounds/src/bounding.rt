@@ -9,7 +9,8 @@ use crate::ascent::climb;
 use crate::bounded::Bounded;
 use crate::buying::climb_scaled;
 use crate::residues::Residues;
-use crate::unmet::Unmet;
+use crate::shortlist::Shortlist;
+use crate::spending::spent_variables;
 use arch_model::Memory;
 use arch_model::limits::MEMBERS;
 use rows::{Cube, Known, Pair, Reason, together};
@@ -23,7 +24,7 @@ use std::marker::Model;
 pub struct Ascent {
     pairs: Vec<Pair>,
     residues: Residues,
-    unmet: Unmet,
+    list: Shortlist,
 }
 
 impl Model for Ascent {
@@ -54,12 +55,12 @@ impl Ascent {
     }
 
     /// Takes an ascent to its end: its own reason where its combination is refuted in the cube, else
-    /// that of a stronger candidate, else what that leaves. `Open` comes only where there is no
-    /// bound or the ascent isn't refuted. The only error is want of memory.
+    /// that of a stronger candidate, else the variables of whose cost that leaves nothing. `Open`
+    /// comes only where there is no bound or the ascent isn't refuted. The only error is want of
+    /// memory.
     pub fn settle(self, alloc: Global, known: &Known, cube: &Cube) -> Result<Bounded, Memory>
         requires known { IsKnown (parts_of known.now) }
         requires ascent { self.pairs ≡ (whole_ascent (parts_of known.now) cube.now).pairs }
-        requires there { IsSome known.now.bound → AllThere (parts_of known.now) self.pairs }
         ensures there { IfOk result (λ b. IfSome (reason_in b) (AllThere (parts_of known.now))) }
         ensures refuted { IfOk result
             (λ b. IfSome (reason_in b) (λ reason. IsTrue (is_together (parts_of known.now) reason cube.now))) }
@@ -69,11 +70,11 @@ impl Ascent {
         if let Some(reason) = judged(alloc, known, self.pairs, cube)? {
             return Ok(Bounded::Refuted(reason));
         }
-        let second = climb_scaled(alloc, known, &self.unmet, cube)?;
+        let second = climb_scaled(alloc, known, &self.list, cube)?;
         if let Some(reason) = judged(alloc, known, second.pairs, cube)? {
             return Ok(Bounded::Refuted(reason));
         }
-        Ok(Bounded::Open(Residues::new(second.residue)))
+        Ok(Bounded::Open(spent_variables(known.problem.library(), &second.residue)))
     }
 }
 
@@ -112,12 +113,12 @@ pub fn ascend(alloc: Global, known: &Known, cube: &Cube) -> Result<Ascent, Memor
         → slice_index a.residues v ≡ residue_of (parts_of known.now) cube.now v) }
     ensures there { IfOk result (λ a. IsSome known.now.bound → AllThere (parts_of known.now) a.pairs) }
 {
-    let mut unmet = Unmet::new();
-    let rising = climb(alloc, known, cube, &mut unmet)?;
+    let mut list = Shortlist::new();
+    let rising = climb(alloc, known, cube, &mut list)?;
     Ok(Ascent {
         pairs: rising.pairs,
         residues: Residues::new(rising.residue),
-        unmet,
+        list,
     })
 }
 

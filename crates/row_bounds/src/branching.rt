@@ -1,15 +1,14 @@
 // Where to branch.
-ghost use Rattle.std.specs.Prelude.{◌≡◌, ℕ, ◌<◌, ◌≤◌, true, IfSome, IfNone};
+ghost use Rattle.std.specs.Prelude.{◌≡◌, ℕ, ◌<◌, true, IfSome, IfNone};
 ghost use Rattle.arch_model.specs.Member.{member_count};
 ghost use Rattle.rows.specs.Cube.{is_free, IsFull};
 ghost use Rattle.rows.specs.Row.{IsRowBelow};
-ghost use Rattle.rows.specs.Known.{parts_of, variables};
+ghost use Rattle.rows.specs.Known.{parts_of, variables, IsKnown};
 
-use crate::residues::Residues;
 use crate::spending::base_row;
 use arch_model::limits::MEMBERS;
 use arch_model::{Library, MemberSet, VarId};
-use rows::{Cube, Known, Row, RowRef, has, member_cost, unmet, variable_count};
+use rows::{Cube, Known, Row, RowRef, member_cost, unmet, variable_count};
 
 // What speaks for branching on a variable, the strongest first.
 #[derive(Clone, Copy)]
@@ -24,13 +23,12 @@ struct Merit {
 
 impl Merit {
     // That of a variable.
-    fn of(lib: &Library, useful: &MemberSet, residues: &Residues, v: VarId) -> Merit
-        requires few { member_count lib.now ≤ MEMBERS }
-        requires variable { v.0 < member_count lib.now }
+    fn of(lib: &Library, useful: &MemberSet, spent: &MemberSet, v: VarId) -> Merit
+        requires { v.0 < member_count lib.now }
     {
         Merit {
             useful: useful.has(v),
-            spent: residues.of(v) == 0,
+            spent: spent.has(v),
             cost: member_cost(lib, v),
         }
     }
@@ -58,22 +56,19 @@ fn put_helpers(set: &mut MemberSet, row: &Row)
     }
 }
 
-// Whether a row is known, and not met by every vector of a cube.
-fn is_wanting(known: &Known, name: RowRef, cube: &Cube) -> bool {
-    has(known, name) && unmet(known, name, cube)
-}
-
 // The variables with a positive coefficient in some base row or known cut that isn't met by every
 // vector of a cube.
-fn useful_variables(known: &Known, cube: &Cube) -> MemberSet {
+fn useful_variables(known: &Known, cube: &Cube) -> MemberSet
+    requires { IsKnown (parts_of known.now) }
+{
     let mut useful = MemberSet::new();
     for i in 0..known.problem.base().len() as u32 {
-        if is_wanting(known, RowRef::Base(i), cube) {
+        if unmet(known, RowRef::Base(i), cube) {
             put_helpers(&mut useful, base_row(known.problem, i));
         }
     }
-    for j in 0..known.upto.min(known.cuts.len()) {
-        if is_wanting(known, RowRef::Cut(j), cube) {
+    for j in 0..known.upto {
+        if unmet(known, RowRef::Cut(j), cube) {
             useful = useful.union(&known.cuts.get(j).plus());
         }
     }
@@ -84,28 +79,29 @@ fn useful_variables(known: &Known, cube: &Cube) -> MemberSet {
 fn beats(
     lib: &Library,
     useful: &MemberSet,
-    residues: &Residues,
+    spent: &MemberSet,
     v: VarId,
     best: Option<VarId>,
 ) -> bool
-    requires few { member_count lib.now ≤ MEMBERS }
     requires variable { v.0 < member_count lib.now }
     requires best { IfSome best (λ w. w.0 < member_count lib.now) }
     ensures { IfNone best (result ≡ true) }
 {
     match best {
-        Some(w) => Merit::of(lib, useful, residues, v).is_above(&Merit::of(
-            lib, useful, residues, w,
-        )),
+        Some(w) => {
+            let merit = Merit::of(lib, useful, spent, v);
+            merit.is_above(&Merit::of(lib, useful, spent, w))
+        }
         None => true,
     }
 }
 
-/// The variable to branch on: a free one that would help to meet a known row, one of whose cost
-/// nothing is left before others, then the one of the highest cost, then the one of the least
-/// number. Where no free variable would help, all are looked at. None comes exactly where nothing
-/// is free.
-pub fn branching_variable(known: &Known, cube: &Cube, residues: &Residues) -> Option<VarId>
+/// The variable to branch on: a free one that would help to meet a known row, a spent one (one of
+/// whose cost a bound leaves nothing) before others, then the one of the highest cost, then the one
+/// of the least number. Where no free variable would help, all are looked at. None comes exactly
+/// where nothing is free.
+pub fn branching_variable(known: &Known, cube: &Cube, spent: &MemberSet) -> Option<VarId>
+    requires { IsKnown (parts_of known.now) }
     ensures free { IfSome result (λ v. is_free cube.now v.0 ≡ true) }
     ensures variable { IfSome result (λ v. v.0 < variables (parts_of known.now)) }
     ensures none { IfNone result (IsFull (variables (parts_of known.now)) cube.now) }
@@ -116,7 +112,7 @@ pub fn branching_variable(known: &Known, cube: &Cube, residues: &Residues) -> Op
     for i in 0..variable_count(lib) {
         let v = VarId(i);
         if cube.value(v).is_none() {
-            if beats(lib, &useful, residues, v, best) {
+            if beats(lib, &useful, spent, v, best) {
                 best = Some(v);
             }
         }

@@ -11,10 +11,10 @@ ghost use Rattle.rows.specs.Known.{parts_of, IsKnown};
 ghost use Rattle.row_bounds.specs.Inner.Climb.{IsRising};
 
 use crate::ascent::{PAIRS, Rising};
+use crate::shortlist::{MANY, Shortlist};
 use crate::spending::{
-    MOST, base_row, free_of_cut, quotient, spend_cut, spend_row, times_of_cut, times_of_row,
+    MOST, base_row, free_of_cut, spend_cut, spend_row, times_of_cut, times_of_row,
 };
-use crate::unmet::{MANY, Unmet};
 use arch_model::limits::MEMBERS;
 use arch_model::{CompId, Edge, Library, MemberSet, Memory, VarId};
 use rows::{Cube, Known, Pair, Row, RowRef, Term, member_cost, variable_count};
@@ -81,9 +81,9 @@ fn reach_of_row(lib: &Library, row: &Row, cube: &Cube, residue: &[u128; MEMBERS]
     let fixed = cube.fixed();
     let mut most = MOST;
     for term in row.terms() {
-        let reach = within_reach(lib, cube, term.var, residue);
-        if let Some(times) = quotient(fixed.has(term.var), term.coef, reach) {
-            most = most.min(times);
+        if term.coef > 0 && !fixed.has(term.var) {
+            let reach = within_reach(lib, cube, term.var, residue);
+            most = most.min(reach / term.coef.unsigned_abs());
         }
     }
     most
@@ -218,6 +218,9 @@ fn raise_base(known: &Known, i: u32, cube: &Cube, rising: &mut Rising)
 {
     let row = base_row(known.problem, i);
     let most = reach_of_row(known.problem.library(), row, cube, &rising.residue);
+    if most == 0 {
+        return;
+    }
     for term in row.terms() {
         supply_term(known, *term, most, cube, rising);
     }
@@ -237,12 +240,15 @@ fn raise_cut(known: &Known, j: u32, cube: &Cube, rising: &mut Rising)
     let cut = known.cuts.get(j);
     let free = free_of_cut(&cut, cube);
     let most = reach_of_all(known.problem.library(), &free, cube, &rising.residue);
+    if most == 0 {
+        return;
+    }
     supply_all(known, &free, most, cube, rising);
     let times = times_of_cut(&cut, cube, &rising.residue);
     add_cut(known, j, times, rising);
 }
 
-// The same for the row of this name. The cost row is in already.
+// The same for the row of this name, while there is room for a pair. The cost row is in already.
 fn raise(known: &Known, name: RowRef, cube: &Cube, rising: &mut Rising)
     requires known { IsKnown (parts_of known.now) }
     requires rising { IsRising (parts_of known.now) rising.old.pairs.items rising.old.residue }
@@ -250,6 +256,9 @@ fn raise(known: &Known, name: RowRef, cube: &Cube, rising: &mut Rising)
     ensures rising { IsRising (parts_of known.now) rising.new.pairs.items rising.new.residue }
     ensures room { vec_capacity rising.new.pairs ≡ 64 }
 {
+    if rising.is_full() {
+        return;
+    }
     match name {
         RowRef::Base(i) => {
             if (i as usize) < known.problem.base().len() {
@@ -266,15 +275,15 @@ fn raise(known: &Known, name: RowRef, cube: &Cube, rising: &mut Rising)
 }
 
 // Raises the rows that have this many free helpers.
-fn pass(known: &Known, unmet: &Unmet, helpers: usize, cube: &Cube, rising: &mut Rising)
+fn pass(known: &Known, list: &Shortlist, helpers: usize, cube: &Cube, rising: &mut Rising)
     requires known { IsKnown (parts_of known.now) }
     requires rising { IsRising (parts_of known.now) rising.old.pairs.items rising.old.residue }
     requires room { vec_capacity rising.old.pairs ≡ 64 }
     ensures rising { IsRising (parts_of known.now) rising.new.pairs.items rising.new.residue }
     ensures room { vec_capacity rising.new.pairs ≡ 64 }
 {
-    for place in 0..unmet.len() {
-        if let Some(name) = unmet.at(place, helpers) {
+    for place in 0..list.len() {
+        if let Some(name) = list.at(place, helpers) {
             raise(known, name, cube, rising);
         }
     }
@@ -285,7 +294,7 @@ fn pass(known: &Known, unmet: &Unmet, helpers: usize, cube: &Cube, rising: &mut 
 pub(crate) fn climb_scaled(
     alloc: Global,
     known: &Known,
-    unmet: &Unmet,
+    list: &Shortlist,
     cube: &Cube,
 ) -> Result<Rising, Memory>
     requires { IsKnown (parts_of known.now) }
@@ -293,7 +302,7 @@ pub(crate) fn climb_scaled(
 {
     let mut rising = begin_scaled(alloc, known)?;
     for helpers in 1..MANY + 1 {
-        pass(known, unmet, helpers, cube, &mut rising);
+        pass(known, list, helpers, cube, &mut rising);
     }
     Ok(rising)
 }

@@ -4,7 +4,7 @@
 //! cube can be dropped though no single row says so. `ascend` takes the ascent of `rows` (integer
 //! dual ascent, Erlenkotter 1978): the cost row once, then each row as often as what is left of its
 //! variables' costs allows. `settle` answers the ascent's own reason where it is refuted, else that
-//! of a stronger candidate, else what that candidate leaves of each variable's cost, by which
+//! of a stronger candidate, else the variables of whose cost that candidate leaves nothing, by which
 //! `branching_variable` says where to branch. `lift` answers the reason alone.
 //!
 //! Promised to the layer above are exact pairs and residues of the ascent, a reason wherever the
@@ -23,8 +23,8 @@ mod bounding;
 mod branching;
 mod buying;
 mod residues;
+mod shortlist;
 mod spending;
-mod unmet;
 
 pub use bounded::Bounded;
 pub use bounding::{Ascent, ascend, lift};

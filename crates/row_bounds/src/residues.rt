@@ -5,8 +5,7 @@ use arch_model::VarId;
 use arch_model::limits::MEMBERS;
 use std::marker::Model;
 
-/// What is left of each variable's cost once rows were added to the cost row. Those of an ascent
-/// are in cost units.
+/// What an ascent leaves of each variable's cost, in cost units.
 #[derive(Drop)]
 pub struct Residues {
     left: [u128; MEMBERS],

@@ -6,8 +6,8 @@ ghost use Rattle.rows.specs.Row.{IsSized, IsRowBelow, coef_at, cut_coef, row_of_
 ghost use Rattle.rows.specs.Ascent.{times_of, left_of};
 ghost use Rattle.row_bounds.specs.Inner.Climb.{quotient_by};
 
-use arch_model::MemberSet;
 use arch_model::limits::MEMBERS;
+use arch_model::{Library, MemberSet, VarId};
 use rows::{Cube, CutRow, Problem, Row, variable_count};
 
 // The greatest multiplier of a reason.
@@ -99,6 +99,17 @@ pub(crate) fn times_of_cut(cut: &CutRow, cube: &Cube, residue: &[u128; MEMBERS])
         times = times.min(residue[v.0 as usize]);
     }
     times as u64
+}
+
+// The variables of whose cost nothing is left.
+pub(crate) fn spent_variables(lib: &Library, residue: &[u128; MEMBERS]) -> MemberSet {
+    let mut spent = MemberSet::new();
+    for i in 0..variable_count(lib) {
+        if residue[i as usize] == 0 {
+            spent.put(VarId(i));
+        }
+    }
+    spent
 }
 
 // Takes a row's coefficients, a number of times, from the residues.

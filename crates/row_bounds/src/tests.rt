@@ -6,7 +6,7 @@ ghost use Rattle.std.specs.List.{All};
 ghost use Rattle.rows.specs.Known.{IsCutBelow, IsKnown, parts_of};
 
 use crate::{Bounded, ascend, branching_variable, lift};
-use arch_model::{Library, Memory, Template, VarId};
+use arch_model::{Library, MemberSet, Memory, Template, VarId};
 use rows::{Cube, CutList, CutRow, Known, Pair, Problem, RowRef};
 use std::alloc::Global;
 use std::test::Fail;
@@ -111,10 +111,10 @@ fn there_is_nothing_to_branch_on(rt: HostRuntime) -> Result<(), Fail> {
     let whole = Cube::whole();
     let known = known(&problem, &cuts, 0, None);
     let ascent = ascend(alloc, &known, &whole)?;
-    assert_eq!(rt; branching_variable(&known, &whole, ascent.residues()), None);
+    assert_eq!(rt; branching_variable(&known, &whole, &MemberSet::new()), None);
     match ascent.settle(alloc, &known, &whole)? {
         Bounded::Refuted(_reason) => assert!(rt; false),
-        Bounded::Open(residues) => assert_eq!(rt; residues.of(VarId(0)), 0),
+        Bounded::Open(spent) => assert_eq!(rt; spent.len(), 0),
     }
     Ok(())
 }

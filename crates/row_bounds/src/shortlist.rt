@@ -1,4 +1,6 @@
 // The rows that are worth looking at in a cube, in the order in which an ascent finds them.
+ghost use Rattle.std.specs.Prelude.{◌<◌};
+
 use rows::RowRef;
 
 // Rows with this many free helpers or more are looked at last.
@@ -9,28 +11,31 @@ const ROOM: usize = 512;
 
 // A row, and how many free variables would help to meet it, at most MANY.
 #[derive(Clone, Copy)]
-struct Wanting {
+struct Listed {
     row: RowRef,
     helpers: usize,
 }
 
 // Rows that the variables at 1 don't meet by themselves, as far as there is room.
 #[derive(Drop)]
-pub(crate) struct Unmet {
-    rows: [Wanting; ROOM],
+pub(crate) struct Shortlist {
+    rows: [Listed; ROOM],
     count: usize,
+    // from where on a row gives way to a new one
+    turn: usize,
 }
 
-impl Unmet {
+impl Shortlist {
     // No row yet.
-    pub(crate) fn new() -> Unmet {
-        let none = Wanting {
+    pub(crate) fn new() -> Shortlist {
+        let none = Listed {
             row: RowRef::Cost,
             helpers: 0,
         };
-        Unmet {
+        Shortlist {
             rows: [none; ROOM],
             count: 0,
+            turn: 0,
         }
     }
 
@@ -39,19 +44,37 @@ impl Unmet {
         self.count
     }
 
-    // Notes a row while there is room.
+    // The place of a row that gives way: the next one of many helpers, else the next one.
+    fn next_to_go(&mut self) -> usize
+        ensures { result < ROOM }
+    {
+        for place in self.turn..ROOM {
+            if self.rows[place].helpers == MANY {
+                self.turn = place + 1;
+                return place;
+            }
+        }
+        let place = self.turn % ROOM;
+        self.turn = place + 1;
+        place
+    }
+
+    // Notes a row. The newest are cuts, which say most: where there is no room an older row goes.
     pub(crate) fn note(&mut self, row: RowRef, helpers: usize) {
+        let helpers = helpers.min(MANY);
         if self.count < ROOM {
-            let helpers = helpers.min(MANY);
-            self.rows[self.count] = Wanting { row, helpers };
+            self.rows[self.count] = Listed { row, helpers };
             self.count += 1;
+        } else {
+            let place = self.next_to_go();
+            self.rows[place] = Listed { row, helpers };
         }
     }
 
     // The row at a place, where it has this many helpers.
     pub(crate) fn at(&self, place: usize, helpers: usize) -> Option<RowRef> {
         match self.rows.get(place) {
-            Some(wanting) if wanting.helpers == helpers => Some(wanting.row),
+            Some(listed) if listed.helpers == helpers => Some(listed.row),
             _ => None,
         }
     }
