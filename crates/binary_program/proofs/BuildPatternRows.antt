@@ -2,12 +2,18 @@
 use Rattle.std.proofs.Common.{◌≡◌, ◌≤◌, ℕ, pos, neg_ℤ, Option, List, [], ◌∷◌, ◌++◌, map, length, take, ap, ◌∙◌}
 use Rattle.std.proofs.lemmas.List.{append_assoc, take_all}
 use Rattle.std.specs.List.{flat_map}
+use Rattle.arch_model.specs.declared.sets.CompId.{CompId}
 use Rattle.arch_model.specs.declared.library.Pattern.{Pattern}
 use Rattle.arch_model.specs.Template.{instances_of}
 use Rattle.arch_model.specs.Parts.{LibraryParts}
 use Rattle.rows.specs.Parts.{RowParts}
 use Rattle.rows.specs.Row.{term}
-use Rattle.rows.specs.BaseRows.{plus, minus, member_row, at_least, at_most, count_rows, in_variables, out_variables, degree_rows, in_needs_out_rows, exclusive_rows, implies_rows, edge_rows, requirement_rows, pattern_rows, base_rows_of}
+use Rattle.rows.specs.BaseRows.{plus, minus, member_row, at_least, at_most, count_rows, edge_variables, in_variables, out_variables, degree_rows, in_needs_out_rows, implies_rows, edge_rows, requirement_rows, pattern_rows, base_rows_of}
+use Rattle.binary_program.specs.declared.asked.Side.{Side}
+use Rattle.binary_program.specs.declared.asked.Side.TheVariants.{In, Out}
+use Rattle.binary_program.specs.declared.terms.EdgeKind.{EdgeKind}
+use Rattle.binary_program.specs.Inner.Asked.{edges_on, variables_on}
+use Rattle.binary_program.specs.Inner.Terms.{is_of_kind}
 
 -- the row that some of vs is at 1 where v is, and the row that none is
 abbrev pub some_where : LibraryParts → List ℕ → ℕ → RowParts
@@ -20,23 +26,18 @@ none_where lib vs v = member_row lib (term v (neg_ℤ (pos (length vs))) ∷ map
 abbrev pub absent : LibraryParts → ℕ → RowParts
 absent lib e = member_row lib (minus e ∷ []) (pos 0)
 
--- the rows of one instance, for each kind of pattern
-abbrev pub in_degree_at : LibraryParts → ℕ → ℕ → Option ℕ → ℕ → List RowParts
-in_degree_at lib from min max i = degree_rows lib i (in_variables lib from i) min max
+-- the edges on a side, by their kind
+pub edges_on_side : (lib : LibraryParts) (side : Side) (i : CompId) (t : ℕ) (kind : EdgeKind) → kind ≡ edges_on side i t → edge_variables lib (is_of_kind lib kind) ≡ variables_on side lib t i.0
+edges_on_side lib In i t kind is = ap (λ k. edge_variables lib (is_of_kind lib k)) is
+edges_on_side lib Out i t kind is = ap (λ k. edge_variables lib (is_of_kind lib k)) is
 
-abbrev pub out_degree_at : LibraryParts → ℕ → ℕ → Option ℕ → ℕ → List RowParts
-out_degree_at lib to min max i = degree_rows lib i (out_variables lib to i) min max
-
-abbrev pub needs_out_at : LibraryParts → ℕ → ℕ → ℕ → List RowParts
-needs_out_at lib from to i = in_needs_out_rows lib i from to
-
-abbrev pub exclusive_at : LibraryParts → ℕ → ℕ → ℕ → List RowParts
-exclusive_at lib a b i = exclusive_rows lib i a b
+pub degree_is : (lib : LibraryParts) (i min : ℕ) (max : Option ℕ) (vs on : List ℕ) (before after : List RowParts) → vs ≡ on → after ≡ before ++ degree_rows lib i vs min max → after ≡ before ++ degree_rows lib i on min max
+degree_is lib i min max vs on before after same step = step ∙ ap (λ us. before ++ degree_rows lib i us min max) same
 
 -- the rows of a pattern from those that two calls append
-pub needs_out_is : (lib : LibraryParts) (from to i : ℕ) (outgoing incoming : List ℕ) (before after : List RowParts) → after ≡ before ++ map (some_where lib outgoing) incoming
-    → outgoing ≡ out_variables lib to i → incoming ≡ in_variables lib from i → after ≡ before ++ needs_out_at lib from to i
-needs_out_is lib from to i outgoing incoming before after step out into =
+pub needs_out_is : (lib : LibraryParts) (from to i : ℕ) (outgoing incoming : List ℕ) (before after : List RowParts) → outgoing ≡ out_variables lib to i → incoming ≡ in_variables lib from i
+    → after ≡ before ++ map (some_where lib outgoing) incoming → after ≡ before ++ in_needs_out_rows lib i from to
+needs_out_is lib from to i outgoing incoming before after out into step =
     step ∙ ap (λ vs. before ++ map (some_where lib vs) incoming) out ∙ ap (λ es. before ++ map (some_where lib (out_variables lib to i)) es) into
 
 pub count_is : (lib : LibraryParts) (t min : ℕ) (max : Option ℕ) (least most : List ℕ) (before mid after : List RowParts)

@@ -4,10 +4,9 @@ ghost use Rattle.arch_model.specs.Library.{IsPatternRow};
 ghost use Rattle.rows.specs.BaseRows.{base_rows_of, pattern_rows};
 ghost use Rattle.rows.specs.Problem.{DecidePatterns, problem_parts};
 
-use crate::condition_rows::{
-    push_exclusive_rows, push_forbid_rows, push_implies_rows, push_in_needs_out_rows,
-};
-use crate::degree_rows::{push_count_rows, push_in_degree_rows, push_out_degree_rows};
+use crate::asked::{Asked, Side, push_asked_rows};
+use crate::condition_rows::{push_forbid_rows, push_implies_rows};
+use crate::degree_rows::push_count_rows;
 use crate::edge_rows::{push_edge_rows, push_requirement_rows};
 use crate::sum_rows::{push_cost_cap_rows, push_local_supply_rows, push_total_supply_rows};
 use arch_model::{Library, Memory, Pattern};
@@ -27,15 +26,29 @@ fn push_pattern_rows(
     match *pattern {
         Pattern::Count { of, min, max } => push_count_rows(alloc, rows, lib, of, min, max),
         Pattern::InDegree { of, from, min, max } => {
-            push_in_degree_rows(alloc, rows, lib, of, from, min, max)
+            let asked = Asked::Degree {
+                side: Side::In,
+                other: from,
+                min,
+                max,
+            };
+            push_asked_rows(alloc, rows, lib, of, asked)
         }
         Pattern::OutDegree { of, to, min, max } => {
-            push_out_degree_rows(alloc, rows, lib, of, to, min, max)
+            let asked = Asked::Degree {
+                side: Side::Out,
+                other: to,
+                min,
+                max,
+            };
+            push_asked_rows(alloc, rows, lib, of, asked)
         }
         Pattern::InNeedsOut { of, from, to } => {
-            push_in_needs_out_rows(alloc, rows, lib, of, from, to)
+            push_asked_rows(alloc, rows, lib, of, Asked::InNeedsOut { from, to })
         }
-        Pattern::Exclusive { of, a, b } => push_exclusive_rows(alloc, rows, lib, of, a, b),
+        Pattern::Exclusive { of, a, b } => {
+            push_asked_rows(alloc, rows, lib, of, Asked::Exclusive { a, b })
+        }
         Pattern::Implies { a, b } => push_implies_rows(alloc, rows, lib, a, b),
         Pattern::Forbid { tail, head } => push_forbid_rows(alloc, rows, lib, tail, head),
         Pattern::TotalSupply => push_total_supply_rows(alloc, rows, lib),

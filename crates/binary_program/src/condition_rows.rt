@@ -1,8 +1,6 @@
 // The rows of patterns that say what follows from what, or what excludes what.
 ghost use Rattle.std.specs.Prelude.{◌≡◌, ◌<◌, ◌++◌, ◌∷◌, [], OnOk, map, length, pos, neg_ℤ};
-ghost use Rattle.std.specs.List.{flat_map};
 ghost use Rattle.arch_model.specs.Member.{member_count};
-ghost use Rattle.arch_model.specs.Template.{instances_of};
 ghost use Rattle.rows.specs.Row.{term};
 ghost use Rattle.rows.specs.BaseRows as base;
 ghost use Rattle.binary_program.specs.Inner.Terms.{numbers_of, AreVariables};
@@ -70,27 +68,21 @@ pub(crate) fn push_implies_rows(
     push_some_where_each(alloc, rows, lib, &needed, &needing)
 }
 
-/// Appends the rows that each instance of a type with a present edge from one type has one to
-/// another.
+/// Appends the rows that component i, where it has a present edge from an instance of one type, has
+/// one to an instance of another.
 pub(crate) fn push_in_needs_out_rows(
     alloc: Global,
     rows: &mut Vec<Row>,
     lib: &Library,
-    of: u32,
+    i: CompId,
     from: u32,
     to: u32,
 ) -> Result<(), Memory>
-    ensures { OnOk result (rows.new.items
-        ≡ rows.old.items
-        ++ flat_map (λ i. base.in_needs_out_rows lib.now i from to) (instances_of lib.now.components of)) }
+    ensures { OnOk result (rows.new.items ≡ rows.old.items ++ base.in_needs_out_rows lib.now i.0 from to) }
 {
-    for i in &instances(alloc, lib, of)? {
-        let i = CompId(i.0);
-        let outgoing = edges(alloc, lib, EdgeKind::OutOf { tail: i, to })?;
-        let incoming = edges(alloc, lib, EdgeKind::Into { head: i, from })?;
-        push_some_where_each(alloc, rows, lib, &outgoing, &incoming)?;
-    }
-    Ok(())
+    let outgoing = edges(alloc, lib, EdgeKind::OutOf { tail: i, to })?;
+    let incoming = edges(alloc, lib, EdgeKind::Into { head: i, from })?;
+    push_some_where_each(alloc, rows, lib, &outgoing, &incoming)
 }
 
 // Appends the row that none of `vars` is at 1 where `v` is: with as many of them as f,
@@ -117,9 +109,9 @@ fn push_none_where(
     push_row(alloc, rows, lib, &terms, -(vars.len() as i128))
 }
 
-// Appends the rows that component i has no present edges both from an instance of a and from one
-// of b.
-fn push_exclusive_rows_at(
+/// Appends the rows that component i has no present edges both from an instance of a and from one
+/// of b.
+pub(crate) fn push_exclusive_rows(
     alloc: Global,
     rows: &mut Vec<Row>,
     lib: &Library,
@@ -135,26 +127,6 @@ fn push_exclusive_rows_at(
     }
     for v in &edges(alloc, lib, EdgeKind::Into { head: i, from: a })? {
         push_none_where(alloc, rows, lib, &from_b, *v)?;
-    }
-    Ok(())
-}
-
-/// Appends the rows that no instance of a type has present edges both from an instance of a and
-/// from one of b.
-pub(crate) fn push_exclusive_rows(
-    alloc: Global,
-    rows: &mut Vec<Row>,
-    lib: &Library,
-    of: u32,
-    a: u32,
-    b: u32,
-) -> Result<(), Memory>
-    ensures { OnOk result (rows.new.items
-        ≡ rows.old.items
-        ++ flat_map (λ i. base.exclusive_rows lib.now i a b) (instances_of lib.now.components of)) }
-{
-    for i in &instances(alloc, lib, of)? {
-        push_exclusive_rows_at(alloc, rows, lib, CompId(i.0), a, b)?;
     }
     Ok(())
 }

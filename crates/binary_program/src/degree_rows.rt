@@ -1,14 +1,14 @@
 // The rows of patterns that bound how many of some members are present.
 ghost use Rattle.std.specs.Prelude.{◌≡◌, ◌≤◌, ◌<◌, ◌++◌, ◌∷◌, [], OnOk, map, pos, neg_ℤ};
-ghost use Rattle.std.specs.List.{flat_map};
 ghost use Rattle.arch_model.specs.Member.{member_count};
-ghost use Rattle.arch_model.specs.Template.{instances_of};
 ghost use Rattle.rows.specs.Row.{term};
 ghost use Rattle.rows.specs.BaseRows as base;
 ghost use Rattle.binary_program.specs.Inner.Terms.{numbers_of, AreVariables};
+ghost use Rattle.binary_program.specs.Inner.Asked.{variables_on};
 
 use crate::adding::push_row;
-use crate::terms::{EdgeKind, edges, instances, minus_times, push_terms};
+use crate::asked::Side;
+use crate::terms::{edges, instances, minus_times, push_terms};
 use arch_model::limits::EDGES;
 use arch_model::{CompId, Library, Memory, VarId};
 use rows::Row;
@@ -117,51 +117,23 @@ fn push_degree_rows(
     push_at_most(alloc, rows, lib, vars, max)
 }
 
-/// Appends the rows that each present instance of a type has a number in range of present edges
-/// from instances of another.
-pub(crate) fn push_in_degree_rows(
+/// Appends the rows of a degree of component i: on a side, over the edges that join it to instances
+/// of a type.
+pub(crate) fn push_degree_rows_on(
     alloc: Global,
     rows: &mut Vec<Row>,
     lib: &Library,
-    of: u32,
-    from: u32,
+    i: CompId,
+    side: Side,
+    other: u32,
     min: u32,
     max: Option<u32>,
 ) -> Result<(), Memory>
+    requires instance { i.0 < member_count lib.now }
     requires few { min ≤ 512 }
     ensures { OnOk result (rows.new.items
-        ≡ rows.old.items
-        ++ flat_map (λ i. base.degree_rows lib.now i (base.in_variables lib.now from i) min max)
-        (instances_of lib.now.components of)) }
+        ≡ rows.old.items ++ base.degree_rows lib.now i.0 (variables_on side lib.now other i.0) min max) }
 {
-    for i in &instances(alloc, lib, of)? {
-        let head = CompId(i.0);
-        let vars = edges(alloc, lib, EdgeKind::Into { head, from })?;
-        push_degree_rows(alloc, rows, lib, *i, &vars, min, max)?;
-    }
-    Ok(())
-}
-
-/// The same of present edges to instances of another.
-pub(crate) fn push_out_degree_rows(
-    alloc: Global,
-    rows: &mut Vec<Row>,
-    lib: &Library,
-    of: u32,
-    to: u32,
-    min: u32,
-    max: Option<u32>,
-) -> Result<(), Memory>
-    requires few { min ≤ 512 }
-    ensures { OnOk result (rows.new.items
-        ≡ rows.old.items
-        ++ flat_map (λ i. base.degree_rows lib.now i (base.out_variables lib.now to i) min max)
-        (instances_of lib.now.components of)) }
-{
-    for i in &instances(alloc, lib, of)? {
-        let tail = CompId(i.0);
-        let vars = edges(alloc, lib, EdgeKind::OutOf { tail, to })?;
-        push_degree_rows(alloc, rows, lib, *i, &vars, min, max)?;
-    }
-    Ok(())
+    let vars = edges(alloc, lib, side.edges(i, other))?;
+    push_degree_rows(alloc, rows, lib, VarId(i.0), &vars, min, max)
 }

@@ -13,6 +13,7 @@
 #![tactic(auto)]
 
 mod adding;
+mod asked;
 mod building;
 mod condition_rows;
 mod cubes;

@@ -1,8 +1,0 @@
-use Rattle.std.proofs.Common.{◌≡◌, ◌++◌, take}
-use Rattle.std.specs.List.{flat_map}
-use Rattle.binary_program.specs.Inner.Terms.{numbers_of}
-use Rattle.binary_program.proofs.BuildPatternRows.{out_degree_at}
-use Rattle.binary_program.proofs.degree_rows.push_out_degree_rows.Given as goal
-
-abbrev pub invariant-loop-i : goal.invariant-loop-i
-invariant-loop-i l = l.rows.items ≡ l.initial.rows.items ++ flat_map (out_degree_at l.lib l.to l.min l.max) (numbers_of (take l.i-index l.i-items))
