@@ -152,8 +152,10 @@ impl<'a> Network<'a> {
         requires in_range { self.now.sink < length self.now.lib.components }
         requires same { (v : ℕ) → set.has chosen.now.members.now v ≡ is_in place.now.chosen v }
         requires wide { IsWide self.now place.now wide.now.members.now }
-        requires chosen_links { AreLinks self.now.lib self.now.arch (set.has chosen.now.members.now) chosen.now.links.now }
-        requires wide_links { AreLinks self.now.lib self.now.arch (set.has wide.now.members.now) wide.now.links.now }
+        requires chosen_links { AreLinks self.now.lib self.now.arch
+            (set.has chosen.now.members.now) chosen.now.links.now }
+        requires wide_links { AreLinks self.now.lib self.now.arch
+            (set.has wide.now.members.now) wide.now.links.now }
         requires reached { (c : ℕ) → IsTrue (set.has reached.now c)
             ↔ ((path : List ℕ) × IsPath self.now.lib self.now.arch c (set.has wide.now.members.now) path) }
         ensures { IsNextChoice self.now place.now result }

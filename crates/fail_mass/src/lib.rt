@@ -14,11 +14,11 @@
 //!
 //! What it costs: a case in which a member fails is searched twice, down from the sources and up
 //! from the sink, for whether the sink is reached and which members still matter. One in which it
-//! works is searched once, for whether those that may still fail can part the sink: without that the
-//! cases of a sink that is safe would be gone through one by one. All searches go over one table of
-//! edges as long as no edge has failed. For k chains of m members side by side that is still m^k cases that part the sink.
-//! It takes no memory: the sets lie on the stack, and calls are nested at most twice for each
-//! member that may fail, of which a library has at most 64.
+//! works is searched once, for whether those that may still fail can part the sink: without that
+//! the cases of a sink that is safe would be gone through one by one. All searches go over one
+//! table of edges as long as no edge has failed. For k chains of m members side by side that is
+//! still m^k cases that part the sink. It takes no memory: the sets lie on the stack, and calls are
+//! nested at most twice for each member that may fail, of which a library has at most 64.
 //!
 //! Stands on `arch_model` and `paths`.
 #![tactic(auto)]

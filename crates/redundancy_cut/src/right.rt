@@ -9,7 +9,7 @@ ghost use Rattle.redundancy_cut.specs.RightCut.{IsRightRedundancy, IsRightNoGood
 
 use crate::cut::Cut;
 use arch_model::limits::{COMPONENTS, MEMBERS};
-use arch_model::{Architecture, CompSet, Edge, Library, MemberSet, Requirement, VarId, fail};
+use arch_model::{Architecture, CompSet, Edge, Library, MemberSet, Requirement, VarId, product};
 use rows::{Problem, variable_count};
 
 // Whether a set of members and a set of components have no member in common.
@@ -25,17 +25,18 @@ fn are_apart(set: &MemberSet, far: &CompSet) -> bool
     true
 }
 
-// The product of a set of members, in units of 10^-18.
+// The product of a set of members, in units of 10^-18: that of the list of them.
 fn product_of(lib: &Library, set: &MemberSet) -> u64
     requires { (v : ℕ) → IsTrue (has set.now v) → v < member_count lib.now }
     ensures { result ≡ spec.product_of lib.now (members_below set.now MEMBERS) }
 {
-    let mut value = 1_000_000_000_000_000_000;
+    let mut members = [VarId(0); MEMBERS];
+    let mut count = 0;
     for v in set.members() {
-        let ppm = fail(lib, v);
-        value = ((value as u128 * ppm as u128 + 999_999) / 1_000_000) as u64;
+        members[count] = v;
+        count += 1;
     }
-    value
+    product(lib, &members[..count])
 }
 
 // Whether a product or a weight is above a bound, all in units of 10^-18.
