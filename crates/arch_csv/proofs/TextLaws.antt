@@ -41,16 +41,16 @@ five_pieces t0 t1 t2 t3 t4 t5 x a y b z line e1 e2 e3 e4 e5 is =
     ∙ regroup t0 x a y b z
     ∙ ap (λ t. t0 ++ t) (sym is)
 
-joined_up : (head a b : List ℕ) → ((([] ++ head) ++ a) ++ b) ≡ head ++ a ++ b
-joined_up head a b = simp append_assoc
+joined_up : (text head a b : List ℕ) → ((text ++ head) ++ a) ++ b ≡ text ++ (head ++ a ++ b)
+joined_up text head a b = simp append_assoc
 
 -- a header, and the lines of the components and of the edges
-pub sections : (lib : LibraryParts) (arch : ArchitectureParts) (comps edges : Set) (t0 t1 t2 t3 : List ℕ) → t0 ≡ [] → t1 ≡ t0 ++ codes "kind,from,to\n" → comps ≡ arch.comps → edges ≡ arch.edges
-    → t2 ≡ t1 ++ flat_map (component_line lib) (members_below comps COMPONENTS) → t3 ≡ t2 ++ flat_map (edge_line lib) (members_below edges EDGES) → t3 ≡ architecture_text lib arch
-sections lib arch comps edges t0 t1 t2 t3 e0 e1 alike same e2 e3 =
+pub sections : (lib : LibraryParts) (arch : ArchitectureParts) (comps edges : Set) (t0 t1 t2 t3 : List ℕ) → t1 ≡ t0 ++ codes "kind,from,to\n" → comps ≡ arch.comps → edges ≡ arch.edges
+    → t2 ≡ t1 ++ flat_map (component_line lib) (members_below comps COMPONENTS) → t3 ≡ t2 ++ flat_map (edge_line lib) (members_below edges EDGES) → t3 ≡ t0 ++ architecture_text lib arch
+sections lib arch comps edges t0 t1 t2 t3 e1 alike same e2 e3 =
     let a = flat_map (component_line lib) (members_below arch.comps COMPONENTS) in
     let b = flat_map (edge_line lib) (members_below arch.edges EDGES) in
     e3 ∙ ap (λ (s : Set). t2 ++ flat_map (edge_line lib) (members_below s EDGES)) same
     ∙ ap (λ t. t ++ b) (e2 ∙ ap (λ (s : Set). t1 ++ flat_map (component_line lib) (members_below s COMPONENTS)) alike
-    ∙ ap (λ t. t ++ a) (e1 ∙ ap (λ t. t ++ codes "kind,from,to\n") e0))
-    ∙ joined_up (codes "kind,from,to\n") a b
+    ∙ ap (λ t. t ++ a) e1)
+    ∙ joined_up t0 (codes "kind,from,to\n") a b

@@ -1,13 +1,17 @@
 // The text of an architecture.
-ghost use Rattle.std.specs.Prelude.{◌≡◌, ℕ, ◌<◌, ◌++◌, length, OnOk, OnErr, IsTrue, string_bytes};
+ghost use Rattle.std.specs.Prelude.{◌≡◌, ℕ, ◌<◌, ◌++◌, length, drop, Ok, OnOk, OnErr, IsTrue, string_bytes};
 ghost use Rattle.std.specs.List.{flat_map};
 ghost use Rattle.arch_model.specs.declared.limits.TheConstants.{COMPONENTS, EDGES};
 ghost use Rattle.arch_model.specs.Set as set;
 ghost use Rattle.arch_model.specs.Architecture.{IsArchitecture};
+ghost use Rattle.arch_csv.specs.ArchitectureOf.{architecture_of_bytes};
 ghost use Rattle.arch_csv.specs.Text.{component_line, edge_line, architecture_text};
 
 use arch_model::{Architecture, CompSet, EdgeId, EdgeSet, Library, Memory};
 use template::push_name;
+
+// About how many bytes a line has.
+const LINE: usize = 32;
 
 // Appends the lines of some components, in order.
 fn push_components(text: &mut String, lib: &Library, comps: &CompSet) -> Result<(), Memory>
@@ -50,21 +54,35 @@ fn push_edges(text: &mut String, lib: &Library, edges: &EdgeSet) -> Result<(), M
 }
 
 /// Appends the text of an architecture's file: a header, the components in order, then the edges
-/// in order. It reads back as the same architecture (`laws::written_text_reads_back`). Names need
-/// no quotes, so the text is written as it stands. Where memory is wanting, nothing is appended.
+/// in order. Names need no quotes, so the text is written as it stands.
+pub fn push_architecture(
+    text: &mut String,
+    lib: &Library,
+    arch: &Architecture,
+) -> Result<(), Memory>
+    requires { IsArchitecture lib.now arch.now }
+    ensures { OnOk result (string_bytes text.new ≡ string_bytes text.old ++ architecture_text lib.now arch.now) }
+{
+    text.push_str("kind,from,to\n")?;
+    push_components(text, lib, &arch.comps())?;
+    push_edges(text, lib, &arch.edges())?;
+    Ok(())
+}
+
+/// Appends an architecture's file, which is its text. What was appended reads back as the same
+/// architecture. Where memory is wanting, nothing is appended.
 pub fn write_architecture(
     lib: &Library,
     arch: &Architecture,
     out: &mut Vec<u8>,
 ) -> Result<(), Memory>
     requires { IsArchitecture lib.now arch.now }
-    ensures ok { OnOk result (out.new.items ≡ out.old.items ++ architecture_text lib.now arch.now) }
+    ensures text { OnOk result (out.new.items ≡ out.old.items ++ architecture_text lib.now arch.now) }
+    ensures reads_back { OnOk result (architecture_of_bytes lib.now (drop (length out.old.items) out.new.items) ≡ Ok arch.now) }
     ensures err { OnErr result (out.new.items ≡ out.old.items) }
 {
-    let mut text = String::new(*out.allocator());
-    text.push_str("kind,from,to\n")?;
-    push_components(&mut text, lib, &arch.comps())?;
-    push_edges(&mut text, lib, &arch.edges())?;
+    let mut text = String::with_capacity(*out.allocator(), LINE * lib.components().len())?;
+    push_architecture(&mut text, lib, arch)?;
     out.extend_from_slice(text.as_bytes())?;
     Ok(())
 }

@@ -1,61 +1,15 @@
--- Texts, line by line.
-use Rattle.std.proofs.Common.{◌≡◌, ℕ, ◌<◌, Bool, true, false, cond, List, [], ◌∷◌, ◌++◌, filter, length, get_or, codes, refl, sym, ap, ◌∙◌, append_assoc}
-use Rattle.std.specs.Prelude.{IsTrue}
-use Rattle.std.specs.List.{AllByRecursion, flat_map, range_with_len}
-use Rattle.std.specs.Option.{option_map_or}
-use Rattle.std.proofs.lemmas.Option.{slice_get-get_or}
-use Rattle.arch_model.specs.declared.template.Edge.{Edge}
-use Rattle.arch_model.specs.Set.{Set, has, members_below}
+-- The text of a report.
+use Rattle.std.proofs.Common.{◌≡◌, ℕ, List, [], ◌++◌, codes, ap, ◌∙◌}
+use Rattle.std.specs.Fmt.{decimal}
 use Rattle.arch_model.specs.Parts.{LibraryParts, ArchitectureParts}
 use Rattle.arch_model.specs.Architecture.{cost_of}
-use Rattle.arch_model.specs.declared.limits.TheConstants.{COMPONENTS, EDGES}
-use Rattle.std.specs.Fmt.{decimal}
-use Rattle.arch_model.proofs.Ranges.{blank_edge}
-use Rattle.template.specs.Names.{component_name}
-use Rattle.archex_app.specs.Report.{component_line, edge_line, optimal_text}
+use Rattle.arch_csv.specs.Text.{architecture_text}
+use Rattle.archex_app.specs.Report.{optimal_text}
 
-kept : (p : ℕ → Bool) (P : ℕ → Type 0) (xs : List ℕ) → ((k : ℕ) → p k ≡ true → P k) → AllByRecursion P (filter p xs)
-kept p P [] each = tt
-kept p P (x ∷ xs) each = elim (p x) as (λ b. (b ≡ true → P x) → AllByRecursion P (cond b (x ∷ filter p xs) (filter p xs))) [
-  | true ↦ λ here. (here refl, kept p P xs each)
-  | false ↦ λ here. kept p P xs each
-] (each x)
-
--- what all members have
-pub all_members : (s : Set) (n : ℕ) (P : ℕ → Type 0) → ((k : ℕ) → IsTrue (has s k) → P k) → AllByRecursion P (members_below s n)
-unfolding members_below
-all_members s n P each = kept (has s) P (range_with_len 0 n) each
-
-pub edge_line_is : (lib : LibraryParts) (e : ℕ) (rows : List Edge) → rows ≡ lib.edges → e < length lib.edges
-    → edge_line lib e ≡ codes "edge," ++ component_name lib (get_or rows e blank_edge).tail.0 ++ codes "," ++ component_name lib (get_or rows e blank_edge).head.0 ++ codes "\n"
-edge_line_is lib e rows same here =
-    ap (λ o. option_map_or (λ (edge : Edge). codes "edge," ++ component_name lib edge.tail.0 ++ codes "," ++ component_name lib edge.head.0 ++ codes "\n") o []) (slice_get-get_or lib.edges e blank_edge here)
-    ∙ ap (λ (r : List Edge). codes "edge," ++ component_name lib (get_or r e blank_edge).tail.0 ++ codes "," ++ component_name lib (get_or r e blank_edge).head.0 ++ codes "\n") (sym same)
-
-regroup : (t x a y b z : List ℕ) → ((((t ++ x) ++ a) ++ y) ++ b) ++ z ≡ t ++ (x ++ a ++ y ++ b ++ z)
-regroup t x a y b z = simp append_assoc
-
--- five pieces, one after another
-pub five_pieces : (t0 t1 t2 t3 t4 t5 x a y b z line : List ℕ) → t1 ≡ t0 ++ x → t2 ≡ t1 ++ a → t3 ≡ t2 ++ y → t4 ≡ t3 ++ b → t5 ≡ t4 ++ z → line ≡ x ++ a ++ y ++ b ++ z → t5 ≡ t0 ++ line
-five_pieces t0 t1 t2 t3 t4 t5 x a y b z line e1 e2 e3 e4 e5 is =
-    e5
-    ∙ ap (λ t. t ++ z) (e4 ∙ ap (λ t. t ++ b) (e3 ∙ ap (λ t. t ++ y) (e2 ∙ ap (λ t. t ++ a) e1)))
-    ∙ regroup t0 x a y b z
-    ∙ ap (λ t. t0 ++ t) (sym is)
-
-joined_up : (head k a b : List ℕ) → (((([] ++ head) ++ k) ++ a) ++ b) ≡ head ++ (k ++ a ++ b)
-joined_up head k a b = simp append_assoc
-
--- a head, a header, and the lines of the components and of the edges
-pub sections : (t0 t1 t2 t3 t4 head k a b : List ℕ) → t0 ≡ [] → t1 ≡ t0 ++ head → t2 ≡ t1 ++ k → t3 ≡ t2 ++ a → t4 ≡ t3 ++ b → t4 ≡ head ++ (k ++ a ++ b)
-sections t0 t1 t2 t3 t4 head k a b e0 e1 e2 e3 e4 =
-    e4 ∙ ap (λ t. t ++ b) (e3 ∙ ap (λ t. t ++ a) (e2 ∙ ap (λ t. t ++ k) (e1 ∙ ap (λ t. t ++ head) e0))) ∙ joined_up head k a b
-
-pub report_is : (lib : LibraryParts) (arch : ArchitectureParts) (cost : ℕ) (comps edges : Set) (text : List ℕ) → cost ≡ cost_of lib arch → comps ≡ arch.comps → edges ≡ arch.edges
-    → text ≡ (codes "status optimal\ncost " ++ decimal cost ++ codes "\n") ++ (codes "kind,from,to\n" ++ flat_map (component_line lib) (members_below comps COMPONENTS) ++ flat_map (edge_line lib) (members_below edges EDGES))
-    → text ≡ optimal_text lib arch
-report_is lib arch cost comps edges text costs alike same is =
-    is
-    ∙ ap (λ n. (codes "status optimal\ncost " ++ decimal n ++ codes "\n") ++ (codes "kind,from,to\n" ++ flat_map (component_line lib) (members_below comps COMPONENTS) ++ flat_map (edge_line lib) (members_below edges EDGES))) costs
-    ∙ ap (λ (s : Set). (codes "status optimal\ncost " ++ decimal (cost_of lib arch) ++ codes "\n") ++ (codes "kind,from,to\n" ++ flat_map (component_line lib) (members_below s COMPONENTS) ++ flat_map (edge_line lib) (members_below edges EDGES))) alike
-    ∙ ap (λ (s : Set). (codes "status optimal\ncost " ++ decimal (cost_of lib arch) ++ codes "\n") ++ (codes "kind,from,to\n" ++ flat_map (component_line lib) (members_below arch.comps COMPONENTS) ++ flat_map (edge_line lib) (members_below s EDGES))) same
+-- the cost, then the architecture
+pub report_is : (lib : LibraryParts) (arch : ArchitectureParts) (cost : ℕ) (t0 t1 t2 : List ℕ) → cost ≡ cost_of lib arch → t0 ≡ []
+    → t1 ≡ t0 ++ (codes "status optimal\ncost " ++ decimal cost ++ codes "\n") → t2 ≡ t1 ++ architecture_text lib arch → t2 ≡ optimal_text lib arch
+report_is lib arch cost t0 t1 t2 costs none head rest =
+    rest
+    ∙ ap (λ t. t ++ architecture_text lib arch) (head ∙ ap (λ t. t ++ (codes "status optimal\ncost " ++ decimal cost ++ codes "\n")) none)
+    ∙ ap (λ n. (codes "status optimal\ncost " ++ decimal n ++ codes "\n") ++ architecture_text lib arch) costs

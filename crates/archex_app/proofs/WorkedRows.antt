@@ -1,11 +1,14 @@
 -- Worked rows: the numbers that the code names, and what the definitions compute on small words.
-use Rattle.std.proofs.Common.{◌≡◌, ℕ, Option, None, List, [], ◌∷◌, codes, Ok, Err, refl, inl}
+use Rattle.std.proofs.Common.{◌≡◌, ℕ, Option, None, List, [], ◌∷◌, ◌++◌, codes, Ok, Err, ap, refl, inl, arith}
+use Rattle.std.proofs.lemmas.Fmt.{decimal_digit}
 use Rattle.archex_app.specs.declared.status.TheConstants as constants
 use Rattle.archex_app.specs.declared.reading.TheConstants.{READ_LIMIT}
 use Rattle.archex_app.specs.Status.{number_of, status_of, done, infeasible, node_limit, library_refused, words_refused, read_fault, write_fault, no_memory, log_refused, architecture_refused}
 use Rattle.archex_app.specs.Due.{ends, unread}
 use Rattle.archex_app.specs.Words.{solve, command_of, refused_words_text, files_of, files_read}
 use Rattle.archex_app.specs.ComesTo.{ComesTo}
+use Rattle.archex_app.specs.Refusal.{refused_architecture_text}
+use Rattle.arch_csv.specs.declared.fault.ArchClass.TheVariants.{Fields}
 
 -- the number of each ending
 numbers_0_to_4 : (number_of done ≡ 0) × (number_of infeasible ≡ 1) × (number_of node_limit ≡ 2) × (number_of library_refused ≡ 3) × (number_of words_refused ≡ 4)
@@ -56,3 +59,7 @@ refused = refl
 
 reads_first : ComesTo untold (command_of (codes "solve" ∷ codes "a" ∷ [])) (unread (codes "a"))
 reads_first = inl refl
+
+-- the line that refuses an architecture file with the header `kind,from`
+refuses_fields : refused_architecture_text (record { class = Fields; place = 1 }) ≡ codes "refused architecture 1 Fields\n"
+refuses_fields = ap (λ (n : List ℕ). codes "refused architecture " ++ n ++ codes " " ++ codes "Fields" ++ codes "\n") (decimal_digit 1 (omega arith))

@@ -1,4 +1,4 @@
--- The text that refuses a library for its first fault.
+-- The texts that refuse a library or an architecture file for its first fault.
 use Rattle.std.specs.Prelude.{ℕ, ◌&&◌, not, nat_le, nat_lt, Bool, List, ◌++◌, map, filter, take, codes, if◌then◌else◌}
 use Rattle.std.specs.Fmt.{decimal}
 use Rattle.lib_read.specs.declared.fault.LibClass.{LibClass}
@@ -6,6 +6,9 @@ use Rattle.lib_read.specs.declared.fault.LibClass.TheVariants.{TooLarge, NotToml
 use Rattle.lib_read.specs.declared.fault.TableName.{TableName}
 use Rattle.lib_read.specs.declared.fault.TableName.TheVariants.{Library, Types, Links, Patterns, Requires}
 use Rattle.lib_read.specs.declared.fault.LibFault.{LibFault}
+use Rattle.arch_csv.specs.declared.fault.ArchClass.{ArchClass}
+use Rattle.arch_csv.specs.declared.fault.ArchClass.TheVariants as arch
+use Rattle.arch_csv.specs.declared.fault.ArchFault.{ArchFault}
 
 -- a class's number and word
 abbrev pub class_text : LibClass → List ℕ
@@ -44,3 +47,18 @@ key_text key = map shown (take 40 (filter starts_character key))
 abbrev pub refused_library_text : LibFault → List ℕ
 refused_library_text fault =
     codes "refused library " ++ class_text fault.class ++ codes " " ++ table_text fault.table ++ codes " " ++ decimal fault.position ++ codes " " ++ key_text fault.key ++ codes "\n"
+
+-- the word of a class of faults of an architecture file
+abbrev pub arch_class_text : ArchClass → List ℕ
+arch_class_text arch.TooLarge = codes "TooLarge"
+arch_class_text arch.Fields = codes "Fields"
+arch_class_text arch.Header = codes "Header"
+arch_class_text arch.Kind = codes "Kind"
+arch_class_text arch.UnknownName = codes "UnknownName"
+arch_class_text arch.Duplicate = codes "Duplicate"
+arch_class_text arch.MissingEnd = codes "MissingEnd"
+
+-- one line: the record, counted from 1 (0 for the file), and the class
+abbrev pub refused_architecture_text : ArchFault → List ℕ
+refused_architecture_text fault =
+    codes "refused architecture " ++ decimal fault.place ++ codes " " ++ arch_class_text fault.class ++ codes "\n"

@@ -12,8 +12,8 @@
 //! fewer than 2^(v+1) cubes of v components and edges.
 //!
 //! Stands on `lib_read` for the library, `binary_program` for the rows that say what its patterns
-//! say, `rows` for what they refute, `template` for names, `outside` for the shelf and the sink,
-//! and on nothing of the system.
+//! say, `rows` for what they refute, `arch_csv` for an architecture's text, `outside` for the shelf
+//! and the sink, and on nothing of the system.
 #![tactic(auto)]
 
 mod library;

@@ -3,6 +3,7 @@ ghost use Rattle.std.specs.Prelude.{◌≡◌, ◌++◌, IfOk, OnOk, string_byte
 ghost use Rattle.archex_app.specs.Refusal as spec;
 ghost use Rattle.archex_app.specs.Words.{refused_words_text};
 
+use arch_csv::{ArchClass, ArchFault};
 use arch_model::Memory;
 use arrayvec::ArrayString;
 use itoa::Buffer;
@@ -98,5 +99,31 @@ pub fn refusal(alloc: Global, fault: &LibFault) -> Result<String, Memory>
     write!(text, "refused library {class} {table} {position} ")?;
     push_key(&mut text, fault.key.bytes())?;
     text.push_str("\n")?;
+    Ok(text)
+}
+
+// The word of a class of faults of an architecture file.
+fn arch_class_text(class: ArchClass) -> &'static str
+    ensures { result.now ≡ spec.arch_class_text class }
+{
+    match class {
+        ArchClass::TooLarge => "TooLarge",
+        ArchClass::Fields => "Fields",
+        ArchClass::Header => "Header",
+        ArchClass::Kind => "Kind",
+        ArchClass::UnknownName => "UnknownName",
+        ArchClass::Duplicate => "Duplicate",
+        ArchClass::MissingEnd => "MissingEnd",
+    }
+}
+
+/// The line that refuses an architecture file for a fault.
+pub fn architecture_refusal(alloc: Global, fault: &ArchFault) -> Result<String, Memory>
+    ensures { IfOk result (λ text. string_bytes text ≡ spec.refused_architecture_text fault.now) }
+{
+    let class = arch_class_text(fault.class);
+    let place = fault.place;
+    let mut text = String::new(alloc);
+    write!(text, "refused architecture {place} {class}\n")?;
     Ok(text)
 }
