@@ -78,7 +78,8 @@ pub fn write_architecture(
 ) -> Result<(), Memory>
     requires { IsArchitecture lib.now arch.now }
     ensures text { OnOk result (out.new.items ≡ out.old.items ++ architecture_text lib.now arch.now) }
-    ensures reads_back { OnOk result (architecture_of_bytes lib.now (drop (length out.old.items) out.new.items) ≡ Ok arch.now) }
+    ensures reads_back { OnOk result
+        (architecture_of_bytes lib.now (drop (length out.old.items) out.new.items) ≡ Ok arch.now) }
     ensures err { OnErr result (out.new.items ≡ out.old.items) }
 {
     let mut text = String::with_capacity(*out.allocator(), LINE * lib.components().len())?;

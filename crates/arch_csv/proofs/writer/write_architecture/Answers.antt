@@ -1,4 +1,4 @@
-use Rattle.std.proofs.Common.{◌∙◌, ◌++◌, List, ℕ, [], ap, drop, length}
+use Rattle.std.proofs.Common.{◌∙◌, ◌++◌, List, ℕ, ap, drop, length}
 use Rattle.std.proofs.Math.Seq.{drop-append_seam}
 use Rattle.arch_csv.specs.ArchitectureOf.{architecture_of_bytes}
 use Rattle.arch_csv.specs.Text.{architecture_text}
