@@ -1,15 +1,22 @@
 -- From what was read of a file, or wasn't, to what comes of a command.
-use Rattle.std.proofs.Common.{◌≡◌, ℕ, Option, List, [], Ok, Err, Result, refl, sym, ap, subst, inl, inr}
+use Rattle.std.proofs.Common.{◌≡◌, ℕ, Option, List, [], Ok, Err, Result, refl, sym, ap, subst, ◌∙◌, inl, inr}
 use Rattle.std.specs.Cow.{cow_str_bytes}
 use Rattle.std.specs.Prelude.{MatchResult}
+use Rattle.arch_model.specs.Parts.{LibraryParts, ArchitectureParts}
+use Rattle.lib_read.specs.LibraryOf.{library_of}
+use Rattle.arch_csv.specs.ArchitectureOf.{architecture_of_bytes}
+use Rattle.arch_model.specs.Mass.{enclosure_of}
+use Rattle.archex_app.specs.Mass.{IsSinkNamed, mass_text}
+use Rattle.archex_app.specs.Refusal.{refused_library_text, refused_architecture_text}
+use Rattle.archex_app.specs.Words.{probability}
 use Rattle.outside.specs.Faults.{Rose, Stay}
 use Rattle.archex_app.specs.declared.outcome.Outcome.{Outcome}
 use Rattle.archex_app.specs.declared.outcome.Stop.{Stop}
 use Rattle.archex_app.specs.declared.outcome.Stop.TheVariants.{NoMemory, Unread, Refused}
-use Rattle.archex_app.specs.Status.{Ending}
-use Rattle.archex_app.specs.Due.{Due, ends, IsSettled}
-use Rattle.archex_app.specs.ComesTo.{ReadsAs, EndsWith}
-use Rattle.archex_app.specs.Inner.Outcome.{IsOutcome, Settles, IsRead, StopsAt}
+use Rattle.archex_app.specs.Status.{Ending, status_of, done, words_refused, library_refused, architecture_refused}
+use Rattle.archex_app.specs.Due.{Due, ends, unread, IsSettled}
+use Rattle.archex_app.specs.ComesTo.{CommandComesTo, ReadsAs, OverArchitecture, OverSink, MassComesTo, EndsWith}
+use Rattle.archex_app.specs.Inner.Outcome.{IsOutcome, Settles, IsRead, StopsAt, StopsAtSink}
 
 -- of a job over what was read
 pub job_over : {T E : Type 0} (of : List ℕ → Result T E) (ending : Ending) (refusal : E → List ℕ) (told : List ℕ → Option (List ℕ)) (name : List ℕ) (Job : T → Due → Type 0) (x : T) (outcome : Outcome) → IsRead of (told name) (Ok x) → IsOutcome (Job x) outcome → IsOutcome (ReadsAs of ending refusal told name Job) outcome
@@ -32,3 +39,66 @@ stops_at of ending refusal told name Job (Refused outcome) before now settled w 
     (record { ending = ending; settled = settled; ended_so = w.0.2; due = refused of ending refusal told name Job outcome w.0.0 w.0.1 w.0.3 }, w.1)
 stops_at of ending refusal told name Job Unread before now settled w = (name, inl refl, w.0, w.1)
 stops_at of ending refusal told name Job NoMemory before now settled w = w
+
+-- over read counts that stayed
+settles_from : (Comes : Due → Type 0) (r : Result Outcome Stop) (before mid now : List ℕ → ℕ) → Stay before mid → Settles Comes r mid now → Settles Comes r before now
+settles_from Comes (Ok outcome) before mid now stay w = (w.0, λ other. w.1 other ∙ stay other)
+settles_from Comes (Err (Refused outcome)) before mid now stay w = (w.0, λ other. w.1 other ∙ stay other)
+settles_from Comes (Err Unread) before mid now stay w =
+    let P : ℕ → Type 0 = λ n. Rose n (now w.0) in
+    (w.0, w.1, subst P (stay w.0) w.2, λ other. elim (w.3 other) [ inl same ↦ inl (same ∙ stay other) | inr one ↦ inr (one.0, one.1, sym (stay other) ∙ one.2 ∙ stay one.0, one.3) ])
+settles_from Comes (Err NoMemory) before mid now stay w = λ other. w other ∙ stay other
+
+-- what comes of the job over what was read comes of the whole
+pub settles_over : {T E : Type 0} (of : List ℕ → Result T E) (ending : Ending) (refusal : E → List ℕ) (told : List ℕ → Option (List ℕ)) (name : List ℕ) (Job : T → Due → Type 0) (x : T) (r : Result Outcome Stop) (before mid now : List ℕ → ℕ) → IsRead of (told name) (Ok x) → Stay before mid
+    → Settles (Job x) r mid now → Settles (ReadsAs of ending refusal told name Job) r before now
+settles_over of ending refusal told name Job x (Ok outcome) before mid now read stay w =
+    let here : Settles (ReadsAs of ending refusal told name Job) (Ok outcome) mid now = (job_over of ending refusal told name Job x outcome read w.0, w.1) in
+    settles_from (ReadsAs of ending refusal told name Job) (Ok outcome) before mid now stay here
+settles_over of ending refusal told name Job x (Err (Refused outcome)) before mid now read stay w =
+    let here : Settles (ReadsAs of ending refusal told name Job) (Err (Refused outcome)) mid now = (job_over of ending refusal told name Job x outcome read w.0, w.1) in
+    settles_from (ReadsAs of ending refusal told name Job) (Err (Refused outcome)) before mid now stay here
+settles_over {T = T} {E = E} of ending refusal told name Job x (Err Unread) before mid now read stay w =
+    let P : Result T E → Type 0 = λ r. MatchResult r (λ y. Job y (unread w.0)) (λ fault. EndsWith ending (refusal fault) (unread w.0)) in
+    let here : Settles (ReadsAs of ending refusal told name Job) (Err Unread) mid now = (w.0, inr (read.bytes, read.read, subst P (sym read.is) w.1), w.2, w.3) in
+    settles_from (ReadsAs of ending refusal told name Job) (Err Unread) before mid now stay here
+settles_over of ending refusal told name Job x (Err NoMemory) before mid now read stay w = settles_from (ReadsAs of ending refusal told name Job) (Err NoMemory) before mid now stay w
+
+-- a job over an architecture, which was read after its library
+pub settles_over_both : (told mid : List ℕ → Option (List ℕ)) (lib arch : List ℕ) (Job : LibraryParts → ArchitectureParts → Due → Type 0) (l : LibraryParts) (a : ArchitectureParts) (r : Result Outcome Stop) (before between now : List ℕ → ℕ) → IsRead library_of (told lib) (Ok l) → Stay before between
+    → mid arch ≡ told arch → IsRead (architecture_of_bytes l) (mid arch) (Ok a) → Stay between now → Settles (Job l a) r now now → Settles (OverArchitecture told lib arch Job) r before now
+settles_over_both told mid lib arch Job l a r before between now lib_read stay same arch_read stays w =
+    let P : Option (List ℕ) → Type 0 = λ t. IsRead (architecture_of_bytes l) t (Ok a) in
+    settles_over library_of library_refused refused_library_text told lib (λ k. ReadsAs (architecture_of_bytes k) architecture_refused refused_architecture_text told arch (Job k)) l r before between now lib_read stay
+    (settles_over (architecture_of_bytes l) architecture_refused refused_architecture_text told arch (Job l) a r between now now (subst P same arch_read) stays w)
+
+pub stops_at_architecture : (told mid : List ℕ → Option (List ℕ)) (lib arch : List ℕ) (Job : LibraryParts → ArchitectureParts → Due → Type 0) (l : LibraryParts) (stop : Stop) (before between now : List ℕ → ℕ) → IsRead library_of (told lib) (Ok l) → Stay before between
+    → mid arch ≡ told arch → StopsAt (architecture_of_bytes l) architecture_refused refused_architecture_text (mid arch) arch stop between now → Settles (OverArchitecture told lib arch Job) (Err stop) before now
+stops_at_architecture told mid lib arch Job l stop before between now lib_read stay same stops =
+    let P : Option (List ℕ) → Type 0 = λ t. StopsAt (architecture_of_bytes l) architecture_refused refused_architecture_text t arch stop between now in
+    settles_over library_of library_refused refused_library_text told lib (λ k. ReadsAs (architecture_of_bytes k) architecture_refused refused_architecture_text told arch (Job k)) l (Err stop) before between now lib_read stay
+    (stops_at (architecture_of_bytes l) architecture_refused refused_architecture_text told arch (Job l) stop between now tt (subst P same stops))
+
+pub stops_at_library : (told : List ℕ → Option (List ℕ)) (lib arch : List ℕ) (Job : LibraryParts → ArchitectureParts → Due → Type 0) (stop : Stop) (before now : List ℕ → ℕ) → StopsAt library_of library_refused refused_library_text (told lib) lib stop before now
+    → Settles (OverArchitecture told lib arch Job) (Err stop) before now
+stops_at_library told lib arch Job stop before now stops =
+    stops_at library_of library_refused refused_library_text told lib (λ k. ReadsAs (architecture_of_bytes k) architecture_refused refused_architecture_text told arch (Job k)) stop before now tt stops
+
+-- a name that is no sink's
+pub stops_at_sink : (lib : LibraryParts) (name : List ℕ) (place : ℕ) (Job : ℕ → Due → Type 0) (stop : Stop) (now : List ℕ → ℕ) → StopsAtSink lib name place stop → Settles (OverSink lib name place Job) (Err stop) now now
+stops_at_sink lib name place Job (Refused outcome) now w = (record { ending = words_refused; settled = tt; ended_so = w.1; due = inr (w.0, ap (ends words_refused []) w.2) }, λ other. refl)
+stops_at_sink lib name place Job Unread now w = absurd w
+stops_at_sink lib name place Job NoMemory now w = λ other. refl
+
+-- what comes of `probability` once both files were read
+pub mass_unnamed : (told mid : List ℕ → Option (List ℕ)) (lib arch sink : List ℕ) (l : LibraryParts) (a : ArchitectureParts) (stop : Stop) (before between now : List ℕ → ℕ) → IsRead library_of (told lib) (Ok l) → Stay before between
+    → mid arch ≡ told arch → IsRead (architecture_of_bytes l) (mid arch) (Ok a) → Stay between now → StopsAtSink l sink 4 stop → Settles (CommandComesTo told (probability lib arch sink)) (Err stop) before now
+mass_unnamed told mid lib arch sink l a stop before between now lib_read stay same arch_read stays stops =
+    settles_over_both told mid lib arch (MassComesTo sink) l a (Err stop) before between now lib_read stay same arch_read stays (stops_at_sink l sink 4 (λ s. EndsWith done (mass_text (enclosure_of l a s))) stop now stops)
+
+pub mass_found : (told mid : List ℕ → Option (List ℕ)) (lib arch sink : List ℕ) (l : LibraryParts) (a : ArchitectureParts) (s : ℕ) (outcome : Outcome) (before between now : List ℕ → ℕ) → IsRead library_of (told lib) (Ok l) → Stay before between
+    → mid arch ≡ told arch → IsRead (architecture_of_bytes l) (mid arch) (Ok a) → Stay between now → IsSinkNamed l sink s → outcome.status ≡ status_of done → cow_str_bytes outcome.text ≡ mass_text (enclosure_of l a s)
+    → Settles (CommandComesTo told (probability lib arch sink)) (Ok outcome) before now
+mass_found told mid lib arch sink l a s outcome before between now lib_read stay same arch_read stays named ended text =
+    let is : IsOutcome (MassComesTo sink l a) outcome = record { ending = done; settled = tt; ended_so = ended; due = inl (s, named, ap (ends done []) text) } in
+    settles_over_both told mid lib arch (MassComesTo sink) l a (Ok outcome) before between now lib_read stay same arch_read stays (is, λ other. refl)

@@ -1,16 +1,16 @@
 -- What a run of `solve` says, from what is said of all runs.
-use Rattle.std.proofs.Common.{◌≡◌, ◌≢◌, ℕ, zero, suc, ◌<◌, true, false, Option, Some, None, List, [], ◌∷◌, ◌++◌, Ok, Err, IsErr, Result, IfSome, refl, sym, ap, subst, ◌∙◌, arith, inl, inr, ◌⊎◌}
-use Rattle.std.specs.Prelude.{MatchResult, Contains, slice_index_or}
+use Rattle.std.proofs.Common.{◌≡◌, ◌≢◌, ℕ, true, false, Option, Some, List, [], Ok, Err, IsErr, Result, IfSome, refl, sym, ap, subst, ◌∙◌, arith, inl, inr, ◌⊎◌}
+use Rattle.std.specs.Prelude.{MatchResult, Contains}
 use Rattle.std.proofs.lemmas.List.Elements.{Contains-append_left, Contains-append_right}
 use Rattle.arch_model.specs.Parts.{LibraryParts}
-use Rattle.outside.specs.Faults.{Rose, Stay, ChangesOnly}
+use Rattle.outside.specs.Faults.{Rose, Stay}
 use Rattle.outside.specs.Told.{Appends}
 use Rattle.lib_read.specs.LibraryOf.{library_of}
 use Rattle.lib_read.specs.declared.fault.LibFault.{LibFault}
 use Rattle.archex_app.specs.declared.status.Status.{Status}
 use Rattle.archex_app.specs.Status.{Ending, number_of, status_of, done, infeasible, library_refused, words_refused, read_fault, write_fault, no_memory}
 use Rattle.archex_app.specs.Endings.{endings_of, MayEnd}
-use Rattle.archex_app.specs.Due.{Due, ends, unread, IsSettled}
+use Rattle.archex_app.specs.Due.{Due, ends, unread}
 use Rattle.archex_app.specs.Words.{Asked, solve, refused_words_text, files_of, files_read, files_written}
 use Rattle.archex_app.specs.Refusal.{refused_library_text}
 use Rattle.archex_app.specs.Answer.{ShowsCheapest, ShowsInfeasible, ShowsRefusal, ShowsAnswer, Prints, PrintsFront}
@@ -18,10 +18,10 @@ use Rattle.archex_app.specs.ComesTo.{ComesTo, SolveComesTo, EndsWith}
 use Rattle.archex_app.specs.Complete.{Solves, Completes}
 use Rattle.archex_app.specs.Run.{Seen, names_of, RoseAmong, PrintsFrontOf, EndsAsDue, FailsToRead, FailsAtFile, FailsAtText, FailsToWrite, WantsMemory, Runs}
 use Rattle.archex_app.proofs.RunLaws.{Ended, apart, not_faults, runs_as}
-use Rattle.archex_app.proofs.Within.{same_ending, same_files, same_text, no_read, command_within, words_read, words_written}
+use Rattle.archex_app.proofs.Within.{only_one, same_ending, same_files, same_text, no_read, command_within, words_read, words_written}
 
 -- which of the four ways a status is
-as_due : (Comes : Due → Type 0) (status : Status) (before now : Seen) (n : ℕ) → Ended Comes status before now → status ≡ record { 0 = n } → n ≢ 5 → n ≢ 6 → n ≢ 7 → EndsAsDue Comes status before now
+pub as_due : (Comes : Due → Type 0) (status : Status) (before now : Seen) (n : ℕ) → Ended Comes status before now → status ≡ record { 0 = n } → n ≢ 5 → n ≢ 6 → n ≢ 7 → EndsAsDue Comes status before now
 as_due Comes status before now n ended is read write memory = elim ended [
   | inl due ↦ due
   | inr faults ↦ elim faults [
@@ -57,13 +57,6 @@ as_memory Comes status before now ended is = elim ended [
   ]
 ]
 
-only_at : (x y : List ℕ) (k : ℕ) → k < 1 → slice_index_or (x ∷ []) k y ≡ y → y ≡ x
-only_at x y zero within is = sym is
-only_at x y (suc k) within is = absurd (omega arith)
-
-only_one : (x y : List ℕ) → Contains (x ∷ []) y → y ≡ x
-only_one x y has = only_at x y has.0 has.1 has.2
-
 -- what `solve` ends as
 abbrev SolveShows : Ending → List (List ℕ × List ℕ) → List ℕ → List ℕ → Type 0
 SolveShows ending files bytes text =
@@ -85,9 +78,9 @@ solve_shows told name ending files text comes = elim comes [ inl read ↦ absurd
 solve_reads : (told : List ℕ → Option (List ℕ)) (name n : List ℕ) → ComesTo told (Ok (solve name)) (unread n) → n ≡ name
 solve_reads told name n comes = only_one name n (words_read told (Ok (solve name)) n comes)
 
--- the run of words that ask to solve a library
-pub solve_run : (command : Result Asked ℕ) (name : List ℕ) (status : Status) (before now : Seen) → command ≡ Ok (solve name) → Runs command status before now → Runs (Ok (solve name)) status before now
-solve_run command name status before now asked run = let P : Result Asked ℕ → Type 0 = λ r. Runs r status before now in subst P asked run
+-- the run of words that ask for a command
+pub run_of_words : (command : Result Asked ℕ) (asked : Asked) (status : Status) (before now : Seen) → command ≡ Ok asked → Runs command status before now → Runs (Ok asked) status before now
+run_of_words command asked status before now is run = runs_as (Ok asked) command status before now (sym is) run
 
 pub optimal : (name : List ℕ) (status : Status) (before now : Seen) → Runs (Ok (solve name)) status before now → status ≡ status_of done → Prints ShowsCheapest (before.told name) before.printed now.printed
 optimal name status before now run is =
@@ -169,8 +162,11 @@ write_rose command status before now run is =
       | inr w ↦ inl w.rose
     ]
 
+pub nothing_among : (before now : List ℕ → ℕ) → RoseAmong [] before now → ⊥
+nothing_among before now rose = absurd (omega (arith, rose.1.1))
+
 print_rose : (name : List ℕ) (status : Status) (before now : Seen) → Runs (Ok (solve name)) status before now → status ≡ status_of write_fault → Rose before.prints now.prints
-print_rose name status before now run is = elim (write_rose (Ok (solve name)) status before now run is) [ inl rose ↦ rose | inr w ↦ absurd (omega (arith, w.1.1)) ]
+print_rose name status before now run is = elim (write_rose (Ok (solve name)) status before now run is) [ inl rose ↦ rose | inr w ↦ absurd (nothing_among before.writes now.writes w) ]
 
 pub prints_nothing : (command : Result Asked ℕ) (status : Status) (before now : Seen) → Runs command status before now → (status ≡ status_of read_fault) ⊎ (status ≡ status_of no_memory) → now.printed ≡ before.printed
 prints_nothing command status before now run is = elim is [

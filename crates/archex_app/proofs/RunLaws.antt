@@ -1,51 +1,60 @@
 -- From what came of a command's reads and its job to a run, for all commands.
-use Rattle.std.proofs.Common.{◌≡◌, ◌≢◌, ℕ, ◌<◌, ◌≤◌, true, false, nat_lt, Option, Some, None, List, [], ◌∷◌, ◌++◌, take, length, Ok, Err, Result, IfSome, refl, sym, ap, subst, ◌∙◌, arith, inl, inr, ◌⊎◌}
+use Rattle.std.proofs.Common.{◌≡◌, ◌≢◌, ℕ, ◌<◌, ◌≤◌, true, false, nat_lt, Option, Some, None, List, [], take, length, Ok, Err, Result, IfSome, refl, sym, ap, subst, ◌∙◌, arith, inl, inr, ◌⊎◌}
 use Rattle.std.proofs.lemmas.List.{take_all, length-take-le}
 use Rattle.std.proofs.lemmas.Bool.{ltb-true, ltb-false, lt-ltb}
 use Rattle.std.specs.Cow.{cow_str_bytes}
-use Rattle.std.specs.Prelude.{All, Contains, IsErr}
-use Rattle.arch_model.specs.Parts.{LibraryParts}
+use Rattle.std.specs.Prelude.{Contains}
+use Rattle.arch_model.specs.Parts.{LibraryParts, ArchitectureParts}
 use Rattle.arch_model.proofs.Members.{bool_cases}
-use Rattle.outside.specs.Faults.{Rose, NeverFall, Stay, ChangesOnly}
-use Rattle.outside.specs.Told.{Appends}
+use Rattle.outside.specs.Faults.{NeverFall, Stay, ChangesOnly}
 use Rattle.lib_read.specs.LibraryOf.{library_of}
 use Rattle.lib_read.specs.declared.fault.LibFault.{LibFault}
+use Rattle.arch_csv.specs.declared.fault.ArchFault.{ArchFault}
+use Rattle.arch_csv.specs.ArchitectureOf.{architecture_of_bytes}
+use Rattle.arch_csv.proofs.RecordsRead.{too_large}
 use Rattle.archex_app.specs.declared.reading.TheConstants.{READ_LIMIT}
 use Rattle.archex_app.specs.declared.outcome.Outcome.{Outcome}
 use Rattle.archex_app.specs.declared.outcome.Stop.{Stop}
 use Rattle.archex_app.specs.declared.outcome.Stop.TheVariants.{NoMemory, Unread, Refused}
 use Rattle.archex_app.specs.declared.status.Status.{Status}
 use Rattle.archex_app.specs.Status.{Ending, number_of, status_of, done, infeasible, node_limit, library_refused, words_refused, read_fault, write_fault, no_memory, log_refused, architecture_refused}
-use Rattle.archex_app.specs.Due.{Due, ends, unread, IsSettled}
+use Rattle.archex_app.specs.Due.{Due, ends, IsSettled}
 use Rattle.archex_app.specs.Words.{Asked, refused_words_text, files_read, files_written}
 use Rattle.archex_app.specs.ComesTo.{EndsWith, CommandComesTo}
 use Rattle.archex_app.specs.Run.{Seen, HoldsAll, EndsAsDue, FailsToRead, FailsToWrite, WantsMemory, IsRun, Runs}
-use Rattle.archex_app.specs.Inner.Outcome.{IsOutcome, Settles, Printed, Finishes, IsRead}
+use Rattle.archex_app.specs.Inner.Outcome.{Settles, Printed, Finishes, IsRead}
+use Rattle.archex_app.proofs.Within.{Within, only_one, command_within}
 
 -- two texts that are both too long have one fault
 same_refusal : (read all : List ℕ) → 1048576 < length read → 1048576 < length all → library_of all ≡ library_of read
 unfolding library_of
 same_refusal read all long longer = rw (lt-ltb 1048576 (length read) long, lt-ltb 1048576 (length all) longer) refl
 
--- the front that was read is the library that all bytes are, or has their fault
-same_library : (read all : List ℕ) → read ≡ take READ_LIMIT all → library_of all ≡ library_of read
-same_library read all front =
+-- where all bytes that are too many mean the same, the front that was read means what all bytes do
+same_meaning : {T E : Type 0} (of : List ℕ → Result T E) → ((read all : List ℕ) → 1048576 < length read → 1048576 < length all → of all ≡ of read) → (read all : List ℕ) → read ≡ take READ_LIMIT all → of all ≡ of read
+same_meaning of too_long read all front =
     elim (bool_cases (nat_lt 1048576 (length all))) [
       | inl long ↦
           let longer : 1048576 < length all = ltb-true 1048576 (length all) long in
           let enough : READ_LIMIT ≤ length all = omega arith in
           let size : length read ≡ READ_LIMIT = ap length front ∙ length-take-le READ_LIMIT all enough in
-          let too_long : 1048576 < length read = omega arith in
-          same_refusal read all too_long longer
+          let over : 1048576 < length read = omega arith in
+          too_long read all over longer
       | inr short ↦
           let fits : length all ≤ 1048576 = ltb-false 1048576 (length all) short in
           let within : length all ≤ READ_LIMIT = omega arith in
-          ap library_of (sym (take_all READ_LIMIT all within) ∙ sym front)
+          ap of (sym (take_all READ_LIMIT all within) ∙ sym front)
     ]
 
-pub is_read : (told : Option (List ℕ)) (read : List ℕ) (answer : Result LibraryParts LibFault) → IfSome told (λ all. read ≡ take READ_LIMIT all) → library_of read ≡ answer → IsRead library_of told answer
-is_read None read answer front is = record { bytes = read; read = tt; is = is }
-is_read (Some all) read answer front is = record { bytes = all; read = refl; is = same_library read all front ∙ is }
+read_as : {T E : Type 0} (of : List ℕ → Result T E) → ((read all : List ℕ) → 1048576 < length read → 1048576 < length all → of all ≡ of read) → (told : Option (List ℕ)) (read : List ℕ) (answer : Result T E) → IfSome told (λ all. read ≡ take READ_LIMIT all) → of read ≡ answer → IsRead of told answer
+read_as of too_long None read answer front is = record { bytes = read; read = tt; is = is }
+read_as of too_long (Some all) read answer front is = record { bytes = all; read = refl; is = same_meaning of too_long read all front ∙ is }
+
+pub library_read : (told : Option (List ℕ)) (read : List ℕ) (answer : Result LibraryParts LibFault) → IfSome told (λ all. read ≡ take READ_LIMIT all) → library_of read ≡ answer → IsRead library_of told answer
+library_read told read answer front is = read_as library_of same_refusal told read answer front is
+
+pub architecture_read : (lib : LibraryParts) (told : Option (List ℕ)) (read : List ℕ) (answer : Result ArchitectureParts ArchFault) → IfSome told (λ all. read ≡ take READ_LIMIT all) → architecture_of_bytes lib read ≡ answer → IsRead (architecture_of_bytes lib) told answer
+architecture_read lib told read answer front is = read_as (architecture_of_bytes lib) (λ some all long longer. too_large lib all longer ∙ sym (too_large lib some long)) told read answer front is
 
 -- one status has one number
 pub apart : (status : Status) (m n : ℕ) → status ≡ record { 0 = m } → status ≡ record { 0 = n } → m ≢ n → ⊥
@@ -134,12 +143,23 @@ run_of Comes read written status before now ended told alone rise writes prints 
   never_falls = prints;
 }
 
+-- no other read count changes than those of files that may be read
+reads_alone : (Comes : Due → Type 0) (endings : List Ending) (read written : List (List ℕ)) (r : Result Outcome Stop) (before now : List ℕ → ℕ) → Within Comes endings read written → Settles Comes r before now → ChangesOnly read before now
+reads_alone Comes endings read written (Ok outcome) before now within settles = λ other. inl (settles.1 other)
+reads_alone Comes endings read written (Err (Refused outcome)) before now within settles = λ other. inl (settles.1 other)
+reads_alone Comes endings read written (Err Unread) before now within settles = λ other. elim (settles.3 other) [
+  | inl same ↦ inl same
+  | inr one ↦ let P : List ℕ → Type 0 = Contains read in inr (one.0, subst P (sym (only_one settles.0 one.0 one.1)) (within.read settles.0 settles.1), one.2, one.3)
+]
+reads_alone Comes endings read written (Err NoMemory) before now within settles = λ other. inl (settles other)
+
 -- a command that reads and prints: a run from what came and how it was finished
 pub finished : (asked : Asked) (r : Result Outcome Stop) (status : Status) (before now : Seen) → Settles (CommandComesTo before.told asked) r before.reads now.reads
-    → Finishes r status before.printed now.printed before.prints now.prints → ((name : List ℕ) → now.told name ≡ before.told name) → ChangesOnly (files_read asked) before.reads now.reads → NeverFall before.reads now.reads
+    → Finishes r status before.printed now.printed before.prints now.prints → ((name : List ℕ) → now.told name ≡ before.told name) → NeverFall before.reads now.reads
     → Stay before.writes now.writes → before.prints ≤ now.prints → Runs (Ok asked) status before now
-finished asked r status before now settles finishes told alone rise writes prints = record {
-  goes = run_of (CommandComesTo before.told asked) (files_read asked) (files_written asked) status before now (ends_so _ r status before now settles finishes told writes) told alone rise writes prints;
+finished asked r status before now settles finishes told rise writes prints = record {
+  goes = run_of (CommandComesTo before.told asked) (files_read asked) (files_written asked) status before now (ends_so _ r status before now settles finishes told writes) told
+      (reads_alone (CommandComesTo before.told asked) _ _ _ r before.reads now.reads (command_within before.told asked) settles) rise writes prints;
   refuses = λ err. let e : false ≡ true = err in cc;
 }
 

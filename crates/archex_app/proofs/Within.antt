@@ -1,17 +1,20 @@
 -- What may come of a command stays within its endings and its files. One law for each form in which a command is said, so that a command's own is a line.
-use Rattle.std.proofs.Common.{◌≡◌, ℕ, Option, List, [], ◌∷◌, ◌++◌, Ok, Err, Result, IfSome, refl, sym, ap, subst, inl, inr, ◌⊎◌, arith}
-use Rattle.std.specs.Prelude.{MatchResult, Contains, map}
+use Rattle.std.proofs.Common.{◌≡◌, ℕ, zero, suc, ◌<◌, Option, List, [], ◌∷◌, Ok, Err, Result, refl, sym, subst, inl, inr, ◌⊎◌, arith}
+use Rattle.std.specs.Prelude.{MatchResult, Contains, slice_index_or}
 use Rattle.arch_model.specs.Parts.{LibraryParts, ArchitectureParts}
 use Rattle.arch_model.specs.Admissible.{MeetsPatterns}
 use Rattle.lib_read.specs.LibraryOf.{library_of}
-use Rattle.archex_app.specs.Status.{Ending, done, infeasible, library_refused, words_refused}
+use Rattle.arch_model.specs.Mass.{enclosure_of}
+use Rattle.arch_csv.specs.ArchitectureOf.{architecture_of_bytes}
+use Rattle.archex_app.specs.Status.{Ending, done, infeasible, library_refused, words_refused, architecture_refused}
 use Rattle.archex_app.specs.Due.{Due, ends, unread}
-use Rattle.archex_app.specs.Words.{Asked, solve, files_of, files_read, files_written}
+use Rattle.archex_app.specs.Words.{Asked, solve, probability, refused_words_text, files_of, files_read, files_written}
 use Rattle.archex_app.specs.Cheapest.{IsCheapest}
 use Rattle.archex_app.specs.Report.{optimal_text, infeasible_text}
-use Rattle.archex_app.specs.Refusal.{refused_library_text}
+use Rattle.archex_app.specs.Mass.{IsSinkNamed, mass_text}
+use Rattle.archex_app.specs.Refusal.{refused_library_text, refused_architecture_text}
 use Rattle.archex_app.specs.Endings.{endings_of}
-use Rattle.archex_app.specs.ComesTo.{ComesTo, CommandComesTo, EndsWith, Reads, ReadsAs, SolveComesTo}
+use Rattle.archex_app.specs.ComesTo.{ComesTo, CommandComesTo, EndsWith, Reads, ReadsAs, SolveComesTo, MassComesTo}
 use Rattle.archex_app.specs.Run.{names_of}
 
 -- it ends with one of these endings, and reads and writes none but these files
@@ -19,6 +22,23 @@ pub record Within (Comes : Due → Type 0) (endings : List Ending) (reads writes
   pub ending : (ending : Ending) (files : List (List ℕ × List ℕ)) (text : List ℕ) → Comes (ends ending files text) → Contains endings ending
   pub written : (ending : Ending) (files : List (List ℕ × List ℕ)) (text name : List ℕ) → Comes (ends ending files text) → Contains (names_of files) name → Contains writes name
   pub read : (name : List ℕ) → Comes (unread name) → Contains reads name
+
+-- the one name of a list
+only_at : (x y : List ℕ) (k : ℕ) → k < 1 → slice_index_or (x ∷ []) k y ≡ y → y ≡ x
+only_at x y zero within is = sym is
+only_at x y (suc k) within is = absurd (omega arith)
+
+pub only_one : (x y : List ℕ) → Contains (x ∷ []) y → y ≡ x
+only_one x y has = only_at x y has.0 has.1 has.2
+
+-- one of two
+either_at : (x y z : List ℕ) (k : ℕ) → k < 2 → slice_index_or (x ∷ y ∷ []) k z ≡ z → (z ≡ x) ⊎ (z ≡ y)
+either_at x y z zero within is = inl (sym is)
+either_at x y z (suc zero) within is = inr (sym is)
+either_at x y z (suc (suc k)) within is = absurd (omega arith)
+
+pub either_name : (x y z : List ℕ) → Contains (x ∷ y ∷ []) z → (z ≡ x) ⊎ (z ≡ y)
+either_name x y z has = either_at x y z has.0 has.1 has.2
 
 -- the parts of what is due
 pub same_ending : {e e' : Ending} {f f' : List (List ℕ × List ℕ)} {t t' : List ℕ} → ends e f t ≡ ends e' f' t' → e ≡ e'
@@ -101,14 +121,27 @@ at_1 w x xs = (1, omega arith, refl)
 at_2 : {X : Type 0} (v w x : X) (xs : List X) → Contains (v ∷ w ∷ x ∷ xs) x
 at_2 v w x xs = (2, omega arith, refl)
 
+at_3 : {X : Type 0} (u v w x : X) (xs : List X) → Contains (u ∷ v ∷ w ∷ x ∷ xs) x
+at_3 u v w x xs = (3, omega arith, refl)
+
 solve_within : (lib : List ℕ) (l : LibraryParts) → Within (λ due. SolveComesTo l due) (endings_of (solve lib)) (lib ∷ []) []
 solve_within lib l =
     either_within (λ due. (arch : ArchitectureParts) × IsCheapest l arch × EndsWith done (optimal_text l arch) due) (λ due. ((arch : ArchitectureParts) → MeetsPatterns l arch → ⊥) × EndsWith infeasible infeasible_text due) _ _ _
     (some_within (IsCheapest l) (λ (arch : ArchitectureParts). EndsWith done (optimal_text l arch)) _ _ _ (λ arch. ends_within done _ _ _ _ (at_0 done (infeasible ∷ library_refused ∷ []))))
     (given_within (EndsWith infeasible infeasible_text) _ _ _ (ends_within infeasible _ _ _ _ (at_1 done infeasible (library_refused ∷ []))))
 
+sink_within : (sink : List ℕ) (l : LibraryParts) (a : ArchitectureParts) (read written : List (List ℕ)) → Within (λ due. MassComesTo sink l a due) (done ∷ library_refused ∷ words_refused ∷ architecture_refused ∷ []) read written
+sink_within sink l a read written =
+    either_within (λ due. (s : ℕ) × IsSinkNamed l sink s × EndsWith done (mass_text (enclosure_of l a s)) due) (λ due. ((s : ℕ) → IsSinkNamed l sink s → ⊥) × EndsWith words_refused (refused_words_text 4) due) _ _ _
+    (some_within (IsSinkNamed l sink) (λ (s : ℕ). EndsWith done (mass_text (enclosure_of l a s))) _ _ _ (λ s. ends_within done _ _ _ _ (at_0 done (library_refused ∷ words_refused ∷ architecture_refused ∷ []))))
+    (given_within (EndsWith words_refused (refused_words_text 4)) _ _ _ (ends_within words_refused _ _ _ _ (at_2 done library_refused words_refused (architecture_refused ∷ []))))
+
 pub command_within : (told : List ℕ → Option (List ℕ)) (asked : Asked) → Its told asked
 command_within told (solve lib) = reads_as_within library_of library_refused refused_library_text told lib SolveComesTo _ _ _ (at_0 lib []) (at_2 done infeasible library_refused []) (λ l. solve_within lib l)
+command_within told (probability lib arch sink) =
+    reads_as_within library_of library_refused refused_library_text told lib (λ l. ReadsAs (architecture_of_bytes l) architecture_refused refused_architecture_text told arch (MassComesTo sink l)) _ _ _ (at_0 lib (arch ∷ []))
+    (at_1 done library_refused (words_refused ∷ architecture_refused ∷ []))
+    (λ l. reads_as_within (architecture_of_bytes l) architecture_refused refused_architecture_text told arch (MassComesTo sink l) _ _ _ (at_1 lib arch []) (at_3 done library_refused words_refused architecture_refused []) (λ a. sink_within sink l a _ _))
 
 -- the words
 pub words_read : (told : List ℕ → Option (List ℕ)) (command : Result Asked ℕ) (name : List ℕ) → ComesTo told command (unread name) → Contains (files_of files_read command) name

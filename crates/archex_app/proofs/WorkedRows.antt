@@ -3,9 +3,11 @@ use Rattle.std.proofs.Common.{◌≡◌, ℕ, Option, None, List, [], ◌∷◌,
 use Rattle.std.proofs.lemmas.Fmt.{decimal_digit}
 use Rattle.archex_app.specs.declared.status.TheConstants as constants
 use Rattle.archex_app.specs.declared.reading.TheConstants.{READ_LIMIT}
+use Rattle.lib_read.specs.declared.reader.TheConstants as lib_read
+use Rattle.arch_csv.specs.declared.reader.TheConstants as arch_csv
 use Rattle.archex_app.specs.Status.{number_of, status_of, done, infeasible, node_limit, library_refused, words_refused, read_fault, write_fault, no_memory, log_refused, architecture_refused}
 use Rattle.archex_app.specs.Due.{ends, unread}
-use Rattle.archex_app.specs.Words.{solve, command_of, refused_words_text, files_of, files_read}
+use Rattle.archex_app.specs.Words.{solve, probability, command_of, refused_words_text, files_of, files_read}
 use Rattle.archex_app.specs.ComesTo.{ComesTo}
 use Rattle.archex_app.specs.Refusal.{refused_architecture_text}
 use Rattle.arch_csv.specs.declared.fault.ArchClass.TheVariants.{Fields}
@@ -24,12 +26,15 @@ answers = (refl, refl)
 refusals : (constants.Status.LIBRARY_REFUSED ≡ status_of library_refused) × (constants.Status.WORDS_REFUSED ≡ status_of words_refused)
 refusals = (refl, refl)
 
+architecture : constants.Status.ARCHITECTURE_REFUSED ≡ status_of architecture_refused
+architecture = refl
+
 faults : (constants.Status.READ_FAULT ≡ status_of read_fault) × (constants.Status.WRITE_FAULT ≡ status_of write_fault) × (constants.Status.NO_MEMORY ≡ status_of no_memory)
 faults = (refl, refl, refl)
 
--- one byte more than a library may have is read of it
-limit : READ_LIMIT ≡ 1048577
-limit = refl
+-- one byte more than a library or an architecture file may have is read of it
+limit : (READ_LIMIT ≡ 1048577) × (lib_read.LARGEST ≡ 1048576) × (arch_csv.LARGEST ≡ 1048576)
+limit = (refl, refl, refl)
 
 -- words, their command and its files
 solve_a : command_of (codes "solve" ∷ codes "a" ∷ []) ≡ Ok (solve (codes "a"))
@@ -47,8 +52,23 @@ solve_empty = refl
 solve_two : command_of (codes "solve" ∷ codes "a" ∷ codes "b" ∷ []) ≡ Err 3
 solve_two = refl
 
+mass_of_c : command_of (codes "probability" ∷ codes "a" ∷ codes "b" ∷ codes "c" ∷ []) ≡ Ok (probability (codes "a") (codes "b") (codes "c"))
+mass_of_c = refl
+
+mass_of_none : command_of (codes "probability" ∷ codes "a" ∷ codes "b" ∷ []) ≡ Err 4
+mass_of_none = refl
+
+mass_of_empty : command_of (codes "probability" ∷ codes "a" ∷ [] ∷ [] ∷ []) ≡ Err 3
+mass_of_empty = refl
+
+mass_of_more : command_of (codes "probability" ∷ codes "a" ∷ codes "b" ∷ codes "c" ∷ [] ∷ []) ≡ Err 5
+mass_of_more = refl
+
 reads_a : files_of files_read (command_of (codes "solve" ∷ codes "a" ∷ [])) ≡ codes "a" ∷ []
 reads_a = refl
+
+reads_both : files_of files_read (command_of (codes "probability" ∷ codes "a" ∷ codes "b" ∷ codes "c" ∷ [])) ≡ codes "a" ∷ codes "b" ∷ []
+reads_both = refl
 
 -- what refused words come to, and that `solve` reads its library first
 abbrev untold : List ℕ → Option (List ℕ)

@@ -1,14 +1,17 @@
--- What the words come to, over what the shelf tells under each name. The order of refusals stands here, once for all commands: the words; reading the library; the library; then the command's own job.
+-- What the words come to, over what the shelf tells under each name. The order of refusals stands here, once for all commands: the words; reading the library; the library; reading the architecture; the architecture; the sink; then the command's own job.
 use Rattle.std.specs.Prelude.{◌≡◌, ℕ, Option, List, [], ◌⊎◌, Result, Ok, Err, IfSome, MatchResult}
 use Rattle.arch_model.specs.Parts.{LibraryParts, ArchitectureParts}
 use Rattle.arch_model.specs.Admissible.{MeetsPatterns}
+use Rattle.arch_model.specs.Mass.{enclosure_of}
 use Rattle.lib_read.specs.LibraryOf.{library_of}
-use Rattle.archex_app.specs.Status.{Ending, done, infeasible, library_refused, words_refused}
+use Rattle.arch_csv.specs.ArchitectureOf.{architecture_of_bytes}
+use Rattle.archex_app.specs.Status.{Ending, done, infeasible, library_refused, words_refused, architecture_refused}
 use Rattle.archex_app.specs.Due.{Due, ends, unread}
-use Rattle.archex_app.specs.Words.{Asked, solve, command_of, refused_words_text}
+use Rattle.archex_app.specs.Words.{Asked, solve, probability, refused_words_text}
 use Rattle.archex_app.specs.Cheapest.{IsCheapest}
 use Rattle.archex_app.specs.Report.{optimal_text, infeasible_text}
-use Rattle.archex_app.specs.Refusal.{refused_library_text}
+use Rattle.archex_app.specs.Mass.{IsSinkNamed, mass_text}
+use Rattle.archex_app.specs.Refusal.{refused_library_text, refused_architecture_text}
 
 -- the run ends so, with this text, and writes no file
 abbrev pub EndsWith : Ending → List ℕ → Due → Type 0
@@ -26,15 +29,30 @@ ReadsAs of ending refusal told name Job due = Reads told name (λ bytes come. Ma
 abbrev pub OverLibrary : (List ℕ → Option (List ℕ)) → List ℕ → (LibraryParts → Due → Type 0) → Due → Type 0
 OverLibrary told name Job due = ReadsAs library_of library_refused refused_library_text told name Job due
 
+-- over the architecture of a name, too
+abbrev pub OverArchitecture : (List ℕ → Option (List ℕ)) → List ℕ → List ℕ → (LibraryParts → ArchitectureParts → Due → Type 0) → Due → Type 0
+OverArchitecture told name arch_name Job due = OverLibrary told name (λ lib. ReadsAs (architecture_of_bytes lib) architecture_refused refused_architecture_text told arch_name (Job lib)) due
+
+-- a job over the component of role sink that has a name: where there is none, the words are refused for the name's place
+abbrev pub OverSink : LibraryParts → List ℕ → ℕ → (ℕ → Due → Type 0) → Due → Type 0
+OverSink lib name place Job due =
+    ((sink : ℕ) × IsSinkNamed lib name sink × Job sink due)
+    ⊎ (((sink : ℕ) → IsSinkNamed lib name sink → ⊥) × EndsWith words_refused (refused_words_text place) due)
+
 -- what `solve` comes to: the report of an architecture that meets the patterns at least cost, or that none meets them
 abbrev pub SolveComesTo : LibraryParts → Due → Type 0
 SolveComesTo lib due =
     ((arch : ArchitectureParts) × IsCheapest lib arch × EndsWith done (optimal_text lib arch) due)
     ⊎ (((arch : ArchitectureParts) → MeetsPatterns lib arch → ⊥) × EndsWith infeasible infeasible_text due)
 
+-- what `probability` comes to: two bounds of the failure mass of the sink, whose name is word 4
+abbrev pub MassComesTo : List ℕ → LibraryParts → ArchitectureParts → Due → Type 0
+MassComesTo sink lib arch due = OverSink lib sink 4 (λ s. EndsWith done (mass_text (enclosure_of lib arch s))) due
+
 -- what a command comes to
 abbrev pub CommandComesTo : (List ℕ → Option (List ℕ)) → Asked → Due → Type 0
 CommandComesTo told (solve lib) due = OverLibrary told lib SolveComesTo due
+CommandComesTo told (probability lib arch sink) due = OverArchitecture told lib arch (MassComesTo sink) due
 
 -- what words come to: their command, or the refusal for the first that isn't as it should be
 abbrev pub ComesTo : (List ℕ → Option (List ℕ)) → Result Asked ℕ → Due → Type 0

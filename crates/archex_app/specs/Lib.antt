@@ -2,11 +2,13 @@ pub mod Status
 pub mod Words
 pub mod Cheapest
 pub mod Report
+pub mod Mass
 pub mod Refusal
 pub mod Due
 pub mod ComesTo
 pub mod Endings
 pub mod Run
 pub mod Answer
+pub mod MassAnswer
 pub mod Complete
 pub mod Inner

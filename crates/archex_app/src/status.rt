@@ -9,9 +9,9 @@ impl Status {
     pub const DONE: Status = Status(0);
     /// No architecture meets the patterns.
     pub const INFEASIBLE: Status = Status(1);
-    /// The library was refused.
+    /// The bytes of the library file aren't a library.
     pub const LIBRARY_REFUSED: Status = Status(3);
-    /// The words were refused.
+    /// The words are no command, or name a sink that the library doesn't have.
     pub const WORDS_REFUSED: Status = Status(4);
     /// A read of a file failed.
     pub const READ_FAULT: Status = Status(5);
@@ -19,4 +19,6 @@ impl Status {
     pub const WRITE_FAULT: Status = Status(6);
     /// There was no memory.
     pub const NO_MEMORY: Status = Status(7);
+    /// The bytes of the architecture file aren't an architecture of the library.
+    pub const ARCHITECTURE_REFUSED: Status = Status(9);
 }

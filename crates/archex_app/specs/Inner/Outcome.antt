@@ -3,13 +3,16 @@ use Rattle.std.specs.Prelude.{◌≡◌, ℕ, Option, List, [], ◌∷◌, ◌++
 use Rattle.std.specs.Cow.{cow_str_bytes}
 use Rattle.outside.specs.Faults.{Rose, Stay, ChangesOnly}
 use Rattle.outside.specs.Told.{Appends}
+use Rattle.arch_model.specs.Parts.{LibraryParts}
 use Rattle.archex_app.specs.declared.status.Status.{Status}
 use Rattle.archex_app.specs.declared.reading.ReadError.{ReadError}
 use Rattle.archex_app.specs.declared.reading.ReadError.TheVariants.{Memory, Failed}
 use Rattle.archex_app.specs.declared.outcome.Outcome.{Outcome}
 use Rattle.archex_app.specs.declared.outcome.Stop.{Stop}
 use Rattle.archex_app.specs.declared.outcome.Stop.TheVariants.{NoMemory, Unread, Refused}
-use Rattle.archex_app.specs.Status.{Ending, status_of, read_fault, write_fault, no_memory}
+use Rattle.archex_app.specs.Status.{Ending, status_of, words_refused, read_fault, write_fault, no_memory}
+use Rattle.archex_app.specs.Words.{refused_words_text}
+use Rattle.archex_app.specs.Mass.{IsSinkNamed}
 use Rattle.archex_app.specs.Due.{Due, ends, unread, IsSettled}
 
 -- a stop for the same cause as a read's
@@ -56,3 +59,10 @@ StopsAt {E = E} of ending refusal told name (Refused outcome) before now =
     ((fault : E) × IsRead of told (Err fault) × (outcome.status ≡ status_of ending) × (cow_str_bytes outcome.text ≡ refusal fault)) × Stay before now
 StopsAt of ending refusal told name Unread before now = Rose (before name) (now name) × ChangesOnly (name ∷ []) before now
 StopsAt of ending refusal told name NoMemory before now = Stay before now
+
+-- why there is no sink of a name: the words are refused for the name's place, or there was no memory
+abbrev pub StopsAtSink : LibraryParts → List ℕ → ℕ → Stop → Type 0
+StopsAtSink lib name place (Refused outcome) =
+    ((c : ℕ) → IsSinkNamed lib name c → ⊥) × (outcome.status ≡ status_of words_refused) × (cow_str_bytes outcome.text ≡ refused_words_text place)
+StopsAtSink lib name place Unread = ⊥
+StopsAtSink lib name place NoMemory = Unit {0}

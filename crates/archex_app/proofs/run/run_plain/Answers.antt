@@ -1,23 +1,24 @@
-use Rattle.archex_app.proofs.Headline.{solve_run, optimal, none_meets, refused_library, read_rose, cut, completes, refused_first, refused, may_end, read_among, write_rose, prints_nothing, reads_stay, writes_stay, prints_stay}
+use Rattle.archex_app.proofs.Headline.{run_of_words, optimal, none_meets, refused_library, read_rose, cut, completes, refused_first, refused, may_end, read_among, write_rose, prints_nothing, reads_stay, writes_stay, prints_stay}
+use Rattle.archex_app.proofs.MassHeadline as mass
 use Rattle.archex_app.proofs.run.run_plain.Goals as goal
 
 pub returns-clause-optimal : goal.returns-clause-optimal
-returns-clause-optimal g c name asked is = optimal name _ _ _ (solve_run _ name _ _ _ asked c.run_command.ensures.run) is
+returns-clause-optimal g c name asked is = optimal name _ _ _ (run_of_words _ _ _ _ _ asked c.run_command.ensures.run) is
 
 pub returns-clause-infeasible : goal.returns-clause-infeasible
-returns-clause-infeasible g c name asked is = none_meets name _ _ _ (solve_run _ name _ _ _ asked c.run_command.ensures.run) is
+returns-clause-infeasible g c name asked is = none_meets name _ _ _ (run_of_words _ _ _ _ _ asked c.run_command.ensures.run) is
 
 pub returns-clause-refused_library : goal.returns-clause-refused_library
-returns-clause-refused_library g c name asked is = refused_library name _ _ _ (solve_run _ name _ _ _ asked c.run_command.ensures.run) is
+returns-clause-refused_library g c name asked is = refused_library name _ _ _ (run_of_words _ _ _ _ _ asked c.run_command.ensures.run) is
 
 pub returns-clause-read_fault : goal.returns-clause-read_fault
-returns-clause-read_fault g c name asked is = read_rose name _ _ _ (solve_run _ name _ _ _ asked c.run_command.ensures.run) is
+returns-clause-read_fault g c name asked is = read_rose name _ _ _ (run_of_words _ _ _ _ _ asked c.run_command.ensures.run) is
 
 pub returns-clause-cut : goal.returns-clause-cut
-returns-clause-cut g c name asked is = cut name _ _ _ (solve_run _ name _ _ _ asked c.run_command.ensures.run) is
+returns-clause-cut g c name asked is = cut name _ _ _ (run_of_words _ _ _ _ _ asked c.run_command.ensures.run) is
 
 pub returns-clause-complete : goal.returns-clause-complete
-returns-clause-complete g c name bytes asked tells reads prints = completes name bytes _ _ _ (solve_run _ name _ _ _ asked c.run_command.ensures.run) tells reads prints
+returns-clause-complete g c name bytes asked tells reads prints = completes name bytes _ _ _ (run_of_words _ _ _ _ _ asked c.run_command.ensures.run) tells reads prints
 
 pub returns-clause-words_first : goal.returns-clause-words_first
 returns-clause-words_first g c err = refused_first _ _ _ _ c.run_command.ensures.run err
@@ -45,3 +46,18 @@ returns-clause-writes_stay g c calm = writes_stay _ _ _ _ c.run_command.ensures.
 
 pub returns-clause-prints_stay : goal.returns-clause-prints_stay
 returns-clause-prints_stay g c calm = prints_stay _ _ _ _ c.run_command.ensures.run calm
+
+pub returns-clause-mass : goal.returns-clause-mass
+returns-clause-mass g c lib arch sink asked is = mass.mass lib arch sink _ _ _ (run_of_words _ _ _ _ _ asked c.run_command.ensures.run) is
+
+pub returns-clause-mass_refused_library : goal.returns-clause-mass_refused_library
+returns-clause-mass_refused_library g c lib arch sink asked is = mass.refused_library lib arch sink _ _ _ (run_of_words _ _ _ _ _ asked c.run_command.ensures.run) is
+
+pub returns-clause-refused_architecture : goal.returns-clause-refused_architecture
+returns-clause-refused_architecture g c lib arch sink asked is = mass.refused_architecture lib arch sink _ _ _ (run_of_words _ _ _ _ _ asked c.run_command.ensures.run) is
+
+pub returns-clause-refused_sink : goal.returns-clause-refused_sink
+returns-clause-refused_sink g c lib arch sink asked is = mass.refused_sink lib arch sink _ _ _ (run_of_words _ _ _ _ _ asked c.run_command.ensures.run) is
+
+pub returns-clause-mass_complete : goal.returns-clause-mass_complete
+returns-clause-mass_complete g c lib arch sink lib_bytes arch_bytes asked lib_tells arch_tells lib_reads arch_reads prints = mass.completes lib arch sink lib_bytes arch_bytes _ _ _ (run_of_words _ _ _ _ _ asked c.run_command.ensures.run) lib_tells arch_tells lib_reads arch_reads prints

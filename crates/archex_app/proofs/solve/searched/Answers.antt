@@ -1,4 +1,4 @@
-use Rattle.std.proofs.Common.{◌≤◌, refl, subst, ap, ◌∙◌, [], inl, inr, sym}
+use Rattle.std.proofs.Common.{◌≤◌, refl, subst, ap, ◌∙◌, [], inl, inr}
 use Rattle.arch_model.specs.Parts.{LibraryParts, ArchitectureParts}
 use Rattle.arch_model.specs.Architecture.{cost_of}
 use Rattle.rows.specs.Parts.{ProblemParts}
