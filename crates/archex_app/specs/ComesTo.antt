@@ -1,7 +1,7 @@
 -- What the words come to, over what the shelf tells under each name. The order of refusals stands here, once for all commands: the words; reading the library; the library; then the command's own job.
 use Rattle.std.specs.Prelude.{◌≡◌, ℕ, Option, List, [], ◌⊎◌, Result, Ok, Err, IfSome, MatchResult}
 use Rattle.arch_model.specs.Parts.{LibraryParts, ArchitectureParts}
-use Rattle.arch_model.specs.Admissible.{MeetsPatterns}
+use Rattle.arch_model.specs.Admissible.{IsAdmissible}
 use Rattle.lib_read.specs.LibraryOf.{library_of}
 use Rattle.archex_app.specs.Status.{Ending, done, infeasible, library_refused, words_refused}
 use Rattle.archex_app.specs.Due.{Due, ends, unread}
@@ -26,11 +26,11 @@ ReadsAs of ending refusal told name Job due = Reads told name (λ bytes come. Ma
 abbrev pub OverLibrary : (List ℕ → Option (List ℕ)) → List ℕ → (LibraryParts → Due → Type 0) → Due → Type 0
 OverLibrary told name Job due = ReadsAs library_of library_refused refused_library_text told name Job due
 
--- what `solve` comes to: the report of an architecture that meets the patterns at least cost, or that none meets them
+-- what `solve` comes to: the report of an admissible architecture of least cost, or that none is admissible
 abbrev pub SolveComesTo : LibraryParts → Due → Type 0
 SolveComesTo lib due =
     ((arch : ArchitectureParts) × IsCheapest lib arch × EndsWith done (optimal_text lib arch) due)
-    ⊎ (((arch : ArchitectureParts) → MeetsPatterns lib arch → ⊥) × EndsWith infeasible infeasible_text due)
+    ⊎ (((arch : ArchitectureParts) → IsAdmissible lib arch → ⊥) × EndsWith infeasible infeasible_text due)
 
 -- what a command comes to
 abbrev pub CommandComesTo : (List ℕ → Option (List ℕ)) → Asked → Due → Type 0

@@ -1,22 +1,26 @@
 //! The top call of the program: from words and a library file to a printed report.
 //!
-//! `run_plain` reads a library from a shelf, searches for an architecture of least cost among all
-//! that meet its patterns, and prints a report to a sink. Its contract is the promise of the whole
-//! program, over bytes in and bytes out: what each status says of the library's bytes and of all
-//! its architectures, which fault is the cause of each status that isn't an answer, and which
-//! status always comes where nothing outside failed.
+//! `run_plain` reads a library from a shelf, searches for an admissible architecture of least cost,
+//! one that meets all patterns and whose required sinks weigh no more than their bounds, and prints
+//! a report to a sink. Its contract is the promise of the whole program, over bytes in and bytes
+//! out: what each status says of the library's bytes and of all its architectures, which fault is
+//! the cause of each status that isn't an answer, and which status always comes where nothing
+//! outside failed.
 //!
-//! The search is a plain recursion over the components, then the edges, cube by cube: a cube is
-//! dropped where one of the library's base rows is refuted, or the cost row for the best
-//! architecture so far (branch and bound, a textbook method). It takes no memory, and looks at
-//! fewer than 2^(v+1) cubes of v components and edges.
+//! The search is branch and bound, a textbook method, by a plain recursion over cubes. A cube is
+//! closed by what the base rows and the cost row for the best so far force. It is dropped where one
+//! of them is refuted, or a combination of them; where nothing is free, the one architecture that is
+//! left is judged by what its sinks weigh; else the cube is split in two at a free variable. The
+//! recursion is at most as deep as there are components and edges.
 //!
 //! Stands on `lib_read` for the library, `binary_program` for the rows that say what its patterns
-//! say, `rows` for what they refute, `arch_csv` for an architecture's text, `outside` for the shelf
-//! and the sink, and on nothing of the system.
+//! say, `propagate` and `row_bounds` for what they leave of a cube, `analyst` for candidates,
+//! `sink_weight` and `arch_csv` for the report, `outside` for the shelf and the sink, and on nothing
+//! of the system.
 #![tactic(auto)]
 
 mod library;
+mod narrowing;
 mod outcome;
 mod printing;
 mod reading;
