@@ -248,7 +248,7 @@ shown_completes bytes text ending files status is shows =
     elim shows [
       | inl w ↦
           let zero_is = is ∙ ap status_of w.0 in
-          subst P (sym w.1.read) (record { ends = inl zero_is; optimal = λ e. (w.1.arch, w.1.cheapest.meets); none_meets = λ e. absurd (apart status 0 1 zero_is e (λ t. omega arith)) })
+          subst P (sym w.1.read) (record { ends = inl zero_is; optimal = λ e. (w.1.arch, w.1.cheapest.admissible); none_meets = λ e. absurd (apart status 0 1 zero_is e (λ t. omega arith)) })
       | inr rest ↦ elim rest [
         | inl w ↦
             let one_is = is ∙ ap status_of w.0 in

@@ -1,7 +1,7 @@
 pub mod Pieces
-pub mod AnyLaws
+pub mod Combining
+pub mod NarrowingLaws
 pub mod SearchLaws
-pub mod Unrequired
 pub mod WordLaws
 pub mod Within
 pub mod RunLaws

@@ -1,6 +1,6 @@
 -- What a printed text shows of the bytes of a library.
 use Rattle.std.specs.Prelude.{◌≡◌, ℕ, Option, List, ◌++◌, ◌⊎◌, Ok, Err, IfSome}
-use Rattle.arch_model.specs.Admissible.{MeetsPatterns}
+use Rattle.arch_model.specs.Admissible.{IsAdmissible}
 use Rattle.arch_model.specs.Parts.{LibraryParts, ArchitectureParts}
 use Rattle.outside.specs.Told.{Appends}
 use Rattle.lib_read.specs.LibraryOf.{library_of}
@@ -9,7 +9,7 @@ use Rattle.archex_app.specs.Report.{optimal_text, infeasible_text}
 use Rattle.archex_app.specs.Refusal.{refused_library_text}
 use Rattle.lib_read.specs.declared.fault.LibFault.{LibFault}
 
--- the bytes are a library, and the text is the report of an architecture that meets its patterns at least cost
+-- the bytes are a library, and the text is the report of an admissible architecture of least cost
 pub record ShowsCheapest (bytes text : List ℕ) : Type 0 where
   pub lib : LibraryParts
   pub read : library_of bytes ≡ Ok lib
@@ -17,11 +17,11 @@ pub record ShowsCheapest (bytes text : List ℕ) : Type 0 where
   pub cheapest : IsCheapest lib arch
   pub report : text ≡ optimal_text lib arch
 
--- the bytes are a library, none of whose architectures meets its patterns
+-- the bytes are a library, none of whose architectures is admissible
 pub record ShowsInfeasible (bytes text : List ℕ) : Type 0 where
   pub lib : LibraryParts
   pub read : library_of bytes ≡ Ok lib
-  pub none : (arch : ArchitectureParts) → MeetsPatterns lib arch → ⊥
+  pub none : (arch : ArchitectureParts) → IsAdmissible lib arch → ⊥
   pub report : text ≡ infeasible_text
 
 -- the bytes are no library, and the text names their first fault

@@ -1,7 +1,7 @@
 -- What the words come to, over what the shelf tells under each name. The order of refusals stands here, once for all commands: the words; reading the library; the library; reading the architecture; the architecture; the sink; then the command's own job.
 use Rattle.std.specs.Prelude.{◌≡◌, ℕ, Option, List, [], ◌⊎◌, Result, Ok, Err, IfSome, MatchResult}
 use Rattle.arch_model.specs.Parts.{LibraryParts, ArchitectureParts}
-use Rattle.arch_model.specs.Admissible.{MeetsPatterns}
+use Rattle.arch_model.specs.Admissible.{IsAdmissible}
 use Rattle.arch_model.specs.Mass.{enclosure_of}
 use Rattle.lib_read.specs.LibraryOf.{library_of}
 use Rattle.arch_csv.specs.ArchitectureOf.{architecture_of_bytes}
@@ -39,11 +39,11 @@ OverSink lib name place Job due =
     ((sink : ℕ) × IsSinkNamed lib name sink × Job sink due)
     ⊎ (((sink : ℕ) → IsSinkNamed lib name sink → ⊥) × EndsWith words_refused (refused_words_text place) due)
 
--- what `solve` comes to: the report of an architecture that meets the patterns at least cost, or that none meets them
+-- what `solve` comes to: the report of an admissible architecture of least cost, or that none is admissible
 abbrev pub SolveComesTo : LibraryParts → Due → Type 0
 SolveComesTo lib due =
     ((arch : ArchitectureParts) × IsCheapest lib arch × EndsWith done (optimal_text lib arch) due)
-    ⊎ (((arch : ArchitectureParts) → MeetsPatterns lib arch → ⊥) × EndsWith infeasible infeasible_text due)
+    ⊎ (((arch : ArchitectureParts) → IsAdmissible lib arch → ⊥) × EndsWith infeasible infeasible_text due)
 
 -- what `probability` comes to: two bounds of the failure mass of the sink, whose name is word 4
 abbrev pub MassComesTo : List ℕ → LibraryParts → ArchitectureParts → Due → Type 0

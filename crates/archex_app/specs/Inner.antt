@@ -2,4 +2,5 @@
 pub mod Commands
 pub mod Outcome
 pub mod Reading
+pub mod Narrowing
 pub mod Search

@@ -1,28 +1,31 @@
 //! The top call of the program: from words and files to a printed text.
 //!
 //! `run_plain` does what its words ask, over a shelf of files and a sink: `solve` searches a library
-//! for an architecture of least cost among all that meet its patterns, and `probability` gives two
-//! bounds of the failure mass of a sink. Its contract is the promise of the whole
-//! program, over bytes in and bytes out: what each status says of the files' bytes and of all
-//! architectures, which fault is the cause of each status that isn't an answer, and which
-//! status always comes where nothing outside failed.
+//! for an admissible architecture of least cost, one that meets all patterns and whose required
+//! sinks weigh no more than their bounds, and `probability` gives two bounds of the failure mass of
+//! a sink. Its contract is the promise of the whole program, over bytes in and bytes out: what each
+//! status says of the files' bytes and of all architectures, which fault is the cause of each status
+//! that isn't an answer, and which status always comes where nothing outside failed.
 //!
-//! The search is a plain recursion over the components, then the edges, cube by cube: a cube is
-//! dropped where one of the library's base rows is refuted, or the cost row for the best
-//! architecture so far (branch and bound, a textbook method). It takes no memory, and looks at
-//! fewer than 2^(v+1) cubes of v components and edges.
+//! The search is branch and bound, a textbook method, by a plain recursion over cubes. A cube is
+//! closed by what the base rows and the cost row for the best so far force. It is dropped where one
+//! of them is refuted, or a combination of them; where nothing is free, the one architecture that is
+//! left is judged by what its sinks weigh; else the cube is split in two at a free variable. The
+//! recursion is at most as deep as there are components and edges.
 //!
 //! A command is said once, by what it comes to (`ComesTo`), and is a function of its own that
 //! promises `Runs` of its own words; what holds of all runs follows from that.
 //!
 //! Stands on `lib_read` for the library, `binary_program` for the rows that say what its patterns
-//! say, `rows` for what they refute, `arch_csv` for architecture files, `fail_mass` for the failure
-//! mass, `template` for names, `outside` for the shelf and the sink, `arrayvec` and `itoa` for a
-//! line that takes no memory, and on nothing of the system.
+//! say, `propagate` and `row_bounds` for what they leave of a cube, `analyst` for candidates,
+//! `sink_weight` for the report, `arch_csv` for architecture files, `fail_mass` for the failure
+//! mass, `outside` for the shelf and the sink, `arrayvec` and `itoa` for a line that takes no
+//! memory, and on nothing of the system.
 #![tactic(auto)]
 
 mod architecture;
 mod library;
+mod narrowing;
 mod outcome;
 mod printing;
 mod probability;

@@ -1,11 +1,46 @@
-// The report of an architecture: its cost, and the text of its file.
-ghost use Rattle.std.specs.Prelude.{◌≡◌, IfOk, string_bytes};
+// The report of an architecture: its cost, the text of its file, and what its sinks weigh.
+ghost use Rattle.std.specs.Prelude.{◌≡◌, ◌<◌, ◌++◌, length, IfOk, OnOk, string_bytes};
+ghost use Rattle.std.specs.List.{flat_map};
 ghost use Rattle.arch_model.specs.Architecture.{IsArchitecture, cost_of};
-ghost use Rattle.archex_app.specs.Report.{optimal_text};
+ghost use Rattle.archex_app.specs.Report.{weight_line, optimal_text};
 
 use arch_csv::push_architecture;
-use arch_model::{Architecture, Library, Memory};
+use arch_model::{Architecture, Library, Memory, Requirement};
+use sink_weight::weight;
+use template::push_name;
 use std::alloc::Global;
+
+// Appends the line of one requirement.
+fn push_weight(
+    text: &mut String,
+    lib: &Library,
+    architecture: &Architecture,
+    requirement: &Requirement,
+) -> Result<(), Memory>
+    requires architecture { IsArchitecture lib.now architecture.now }
+    requires sink { requirement.now.sink.0 < length lib.now.components }
+    ensures { OnOk result (string_bytes text.new ≡ string_bytes text.old
+        ++ weight_line lib.now architecture.now requirement.now) }
+{
+    let weight = weight(*text.allocator(), lib, architecture, requirement.sink);
+    let bound = requirement.bound;
+    text.push_str("weight ")?;
+    push_name(text, lib, requirement.sink)?;
+    write!(text, " {weight} of {bound}\n")?;
+    Ok(())
+}
+
+// Appends the lines of all requirements, in order.
+fn push_weights(text: &mut String, lib: &Library, architecture: &Architecture) -> Result<(), Memory>
+    requires { IsArchitecture lib.now architecture.now }
+    ensures { OnOk result (string_bytes text.new ≡ string_bytes text.old
+        ++ flat_map (weight_line lib.now architecture.now) lib.now.requirements) }
+{
+    for requirement in lib.requirements() {
+        push_weight(text, lib, architecture, requirement)?;
+    }
+    Ok(())
+}
 
 /// The report of an architecture that was found to be cheapest.
 pub fn optimal_report(
@@ -21,5 +56,6 @@ pub fn optimal_report(
     let mut text = String::new(alloc);
     write!(text, "status optimal\ncost {cost}\n")?;
     push_architecture(&mut text, lib, architecture)?;
+    push_weights(&mut text, lib, architecture)?;
     Ok(text)
 }

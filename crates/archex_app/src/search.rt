@@ -1,22 +1,20 @@
-// The search: over the variables in number order, components before edges.
-ghost use Rattle.std.specs.Prelude.{◌≡◌, ℕ, ◌+◌, ◌≤◌, ◌<◌, Bool, false, IfSome, IfNone, option_map, option_to_list};
-ghost use Rattle.std.specs.List.{list_any};
-ghost use Rattle.std.specs.Option.{ForSome};
+// The search: cube by cube, each split in two at a variable where the rows don't settle it.
+ghost use Rattle.std.specs.Prelude.{◌≡◌, ℕ, ◌<◌, [], true, IfOk, IfSome, IfNone, option_map};
 ghost use Rattle.arch_model.specs.Parts.{ArchitectureParts};
-ghost use Rattle.arch_model.specs.Architecture.{cost_of};
+ghost use Rattle.arch_model.specs.Admissible.{IsAdmissible};
 ghost use Rattle.arch_model.specs.Library.{IsLibrary};
-ghost use Rattle.arch_model.specs.Member.{is_present, member_count};
-ghost use Rattle.arch_model.specs.Set.{has};
-ghost use Rattle.rows.specs.Activity.{is_refuted};
-ghost use Rattle.rows.specs.BaseRows.{cost_row_of};
-ghost use Rattle.rows.specs.Cube.{FixesBelow, LiesIn};
-ghost use Rattle.rows.specs.Problem.{IsCandidate, IsVectorOf};
-ghost use Rattle.archex_app.specs.Inner.Search.{IsFound, IsKnownWithin};
+ghost use Rattle.arch_model.specs.Member.{member_count};
+ghost use Rattle.rows.specs.Cube.{FixesBelow, IsCube, IsCubeBelow, fixed_at, is_free};
+ghost use Rattle.rows.specs.Known.{parts_of, variables, IsQuiet};
+ghost use Rattle.archex_app.specs.Cheapest.{IsCheapest};
+ghost use Rattle.archex_app.specs.Inner.Search.{IsFound, IsSearched};
 
+use crate::narrowing::{Left, narrowed};
+use analyst::{Verdict, study};
 use arch_model::limits::MEMBERS;
-use arch_model::{Architecture, VarId, cost};
+use arch_model::{Architecture, Memory, VarId, cost};
 use binary_program::architecture_of;
-use rows::{Cube, CutList, Known, Problem, RowRef, refuted, variable_count};
+use rows::{Cube, CutList, Known, Problem, variable_count};
 use std::alloc::Global;
 
 /// An architecture and its cost.
@@ -26,27 +24,6 @@ pub struct Found {
     pub cost: u64,
     /// The architecture.
     pub architecture: Architecture,
-}
-
-// Whether a base row is refuted in a cube.
-fn breaks_base_row(known: &Known, cube: &Cube) -> bool
-    ensures { result ≡ list_any (λ row. is_refuted row cube.now) known.now.problem.now.base }
-{
-    for i in 0..known.problem.base().len() as u32 {
-        if refuted(known, RowRef::Base(i), cube) {
-            return true;
-        }
-    }
-    false
-}
-
-// Whether the cost row for the bound is refuted in a cube, where there is a bound.
-fn breaks_bound(known: &Known, cube: &Cube) -> bool
-    ensures { result
-        ≡ list_any (λ row. is_refuted row cube.now)
-        (option_to_list (option_map (cost_row_of known.now.problem.now.library) known.now.bound)) }
-{
-    known.bound.is_some() && refuted(known, RowRef::Cost, cube)
 }
 
 // The cost of the best so far, if there is one.
@@ -59,81 +36,81 @@ fn bound_of(best: &Option<Found>) -> Option<u64>
     }
 }
 
-// The architecture of a cube in which nothing is free and no base row is refuted: the only one that
-// lies in it.
-fn found_in(problem: &Problem, cube: &Cube) -> Found
-    requires library { IsLibrary problem.now.library }
-    requires full { FixesBelow (member_count problem.now.library) cube.now }
-    requires stands { list_any (λ row. is_refuted row cube.now) problem.now.base ≡ false }
-    ensures found { IsFound problem.now.library result }
-    ensures vector { IsVectorOf problem.now.library result.architecture (has cube.now.ones) }
-    ensures only { (arch : ArchitectureParts) → IsCandidate problem.now.library arch
-        → LiesIn (is_present problem.now.library arch) cube.now → arch ≡ result.architecture }
+// The better of the best so far and the architecture of a quiet cube in which nothing is free: the
+// only one that lies there. It is cheaper than the best, as the cost row says, so it takes its place
+// where it is admissible.
+fn judged(alloc: Global, known: &Known, cube: &Cube, best: Option<Found>) -> Option<Found>
+    requires library { IsLibrary known.now.problem.now.library }
+    requires fixed { FixesBelow (variables (parts_of known.now)) cube.now }
+    requires quiet { IsQuiet (parts_of known.now) cube.now }
+    requires bound { known.now.bound ≡ option_map (λ found. found.cost) best }
+    requires found { IfSome best (IsFound known.now.problem.now.library) }
+    ensures { IsSearched known.now.problem.now.library cube.now best result }
 {
+    let problem = known.problem;
     let lib = problem.library();
     let architecture = architecture_of(lib, cube);
-    Found {
-        cost: cost(lib, &architecture),
-        architecture,
+    match study(alloc, problem, &architecture) {
+        Verdict::Meets => Some(Found {
+            cost: cost(lib, &architecture),
+            architecture,
+        }),
+        Verdict::Breaks(_cut) => best,
     }
 }
 
 // A cube with one more variable fixed.
-fn with(cube: &Cube, next: u32, value: bool) -> Cube
-    requires open { FixesBelow next cube.now }
-    requires small { next < MEMBERS }
-    ensures open { FixesBelow (next + 1) result }
-    ensures lies { (x : ℕ → Bool) → LiesIn x cube.now → x next ≡ value → LiesIn x result }
+fn with(cube: &Cube, variable: VarId, value: bool) -> Cube
+    requires free { is_free cube.now variable.0 ≡ true }
+    requires small { variable.0 < MEMBERS }
+    ensures fixed { result ≡ fixed_at cube.now variable.0 value }
+    ensures cube { IsCube cube.now }
 {
     let mut cube = *cube;
-    cube.fix(VarId(next), value);
+    cube.fix(variable, value);
     cube
 }
 
-// Looks at all architectures that lie in a cube in which the variables before the next are fixed,
-// and keeps the best. A cube is dropped where a base row is refuted, or the cost row for the best
-// so far.
-fn search(problem: &Problem, cuts: &CutList, next: u32, cube: &Cube, best: &mut Option<Found>)
-    requires open { FixesBelow next cube.now }
-    requires in_range { next ≤ member_count problem.now.library }
-    requires found { ForSome best.old (IsFound problem.now.library) }
-    ensures found { IfSome best.new (IsFound problem.now.library) }
-    ensures covered { (arch : ArchitectureParts) → IsCandidate problem.now.library arch
-        → LiesIn (is_present problem.now.library arch) cube.now
-        → IsKnownWithin best.new (cost_of problem.now.library arch) }
-    ensures kept { (cost : ℕ) → IsKnownWithin best.old cost → IsKnownWithin best.new cost }
+// Looks at all admissible architectures that lie in a cube, and answers the better of the best so
+// far and them. The side of a variable at 0 is looked at first. No cuts are known yet.
+fn search(
+    alloc: Global,
+    problem: &Problem,
+    cuts: &CutList,
+    cube: Cube,
+    best: Option<Found>,
+) -> Result<Option<Found>, Memory>
+    requires cuts { cuts.now.cuts ≡ [] }
+    requires below { IsCubeBelow (member_count problem.now.library) cube }
+    requires found { IfSome best (IsFound problem.now.library) }
+    ensures { IfOk result (IsSearched problem.now.library cube best) }
 {
-    let lib = problem.library();
+    // read for what each problem keeps of its library and its rows
+    let _count = variable_count(problem.library());
     let known = Known {
         problem,
         cuts,
         upto: 0,
-        bound: bound_of(best),
+        bound: bound_of(&best),
     };
-    if breaks_bound(&known, cube) {
-        return;
+    match narrowed(alloc, &known, cube)? {
+        Left::Nothing => Ok(best),
+        Left::One(cube) => Ok(judged(alloc, &known, &cube, best)),
+        Left::Open(cube, variable) => {
+            let best = search(alloc, problem, cuts, with(&cube, variable, false), best)?;
+            search(alloc, problem, cuts, with(&cube, variable, true), best)
+        }
     }
-    if breaks_base_row(&known, cube) {
-        return;
-    }
-    if next == variable_count(lib) {
-        *best = Some(found_in(problem, cube));
-        return;
-    }
-    search(problem, cuts, next + 1, &with(cube, next, false), best);
-    search(problem, cuts, next + 1, &with(cube, next, true), best);
 }
 
-/// An architecture of least cost among those that meet every pattern and have every required sink,
-/// if there is one.
-pub fn cheapest(alloc: Global, problem: &Problem) -> Option<Found>
-    ensures found { IfSome result (IsFound problem.now.library) }
-    ensures least { IfSome result (λ best. (arch : ArchitectureParts) → IsCandidate problem.now.library arch
-        → best.cost ≤ cost_of problem.now.library arch) }
-    ensures none { IfNone result ((arch : ArchitectureParts) → IsCandidate problem.now.library arch → ⊥) }
+/// An admissible architecture of least cost, if there is one. The only error is want of memory.
+pub fn cheapest(alloc: Global, problem: &Problem) -> Result<Option<Found>, Memory>
+    ensures found { IfOk result (λ best. IfSome best (IsFound problem.now.library)) }
+    ensures cheapest { IfOk result (λ best. IfSome best
+        (λ found. IsCheapest problem.now.library found.architecture)) }
+    ensures none { IfOk result (λ best. IfNone best
+        ((arch : ArchitectureParts) → IsAdmissible problem.now.library arch → ⊥)) }
 {
     let cuts = CutList::new(alloc);
-    let mut best = None;
-    search(problem, &cuts, 0, &Cube::whole(), &mut best);
-    best
+    search(alloc, problem, &cuts, Cube::whole(), None)
 }

@@ -19,11 +19,11 @@ use std::borrow::CowStr;
 
 // The report of a cheapest architecture, or that there is none.
 fn searched(alloc: Global, lib: Library) -> Result<Outcome, Memory>
-    requires unrequired { lib.requirements ≡ [] }
     ensures { IfOk result (IsOutcome (SolveComesTo lib)) }
 {
     let problem = problem_of(alloc, lib)?;
-    match cheapest(alloc, &problem) {
+    let cheapest = cheapest(alloc, &problem)?;
+    match cheapest {
         Some(best) => {
             let text = optimal_report(alloc, problem.library(), best.cost, &best.architecture)?;
             Ok(Outcome {
@@ -52,8 +52,8 @@ fn come_to<F: Shelf>(alloc: Global, shelf: &mut F, name: &str) -> Result<Outcome
     Ok(outcome)
 }
 
-/// Does what `solve LIB` asks: reads the library, searches for an architecture of least cost among
-/// all that meet its patterns, and prints a report.
+/// Does what `solve LIB` asks: reads the library, searches for an admissible architecture of least
+/// cost, and prints a report.
 pub fn solve_library<F: Shelf, O: Sink>(
     alloc: Global,
     lib: &str,

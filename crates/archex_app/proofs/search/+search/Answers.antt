@@ -1,35 +1,55 @@
-use Rattle.std.proofs.Common.{◌≡◌, ℕ, sym, subst, ap, ◌∙◌, arith, Option, option_map, option_to_list}
-use Rattle.std.specs.List.{list_any}
+use Rattle.std.proofs.Common.{◌≡◌, ◌∙◌, ap, subst, arith, false, true}
 use Rattle.arch_model.specs.Member.{member_count}
-use Rattle.arch_model.specs.Architecture.{cost_of}
-use Rattle.rows.specs.Activity.{is_refuted}
-use Rattle.rows.specs.BaseRows.{cost_row_of}
-use Rattle.rows.specs.Cube.{FixesBelow}
-use Rattle.archex_app.proofs.SearchLaws.{dropped_by_rows, dropped_by_bound, cheaper, covered_both}
+use Rattle.rows.specs.Known.{known_parts}
+use Rattle.archex_app.specs.Inner.Narrowing.{IsLeft}
+use Rattle.archex_app.specs.Inner.Search.{IsSearched}
+use Rattle.archex_app.proofs.SearchLaws.{nothing_left, searched_inside, searched_open, split_further, if_ok}
 use Rattle.archex_app.proofs.search.+search.Goals as goal
 
-pub returns-then-breaks_base_row-clause-covered : goal.returns-then-breaks_base_row-clause-covered
-returns-then-breaks_base_row-clause-covered t c arch candidate lies =
-    dropped_by_rows c.args.problem.now c.args.cube.now c.args.best.now c.library-lib.ensures.problem (sym c.breaks_base_row.ensures ∙ c.if-breaks_base_row.true) arch candidate lies
+pub with-requires-clause-small : goal.with-requires-clause-small
+with-requires-clause-small t c =
+    let known = known_parts c.args.problem.now c.args.cuts.now 0 c.bound_of.result in
+    let left = subst (IsLeft known c.args.cube) c.in-Open.is c.in_ok-narrowed.ensures in
+    let all : c.variable_count-count.result ≡ member_count c.args.problem.now.library = c.variable_count-count.ensures.count ∙ ap member_count c.library.ensures.library in
+    omega (arith, left.variable, all, c.variable_count-count.ensures.few)
 
-pub returns-then-breaks_bound-clause-covered : goal.returns-then-breaks_bound-clause-covered
-returns-then-breaks_bound-clause-covered t c arch candidate lies =
-    dropped_by_bound c.args.problem.now.library c.args.cube.now c.args.best.now
-    (ap (λ (o : Option ℕ). list_any (λ row. is_refuted row c.args.cube.now) (option_to_list (option_map (cost_row_of c.args.problem.now.library) o))) (sym c.bound_of.ensures) ∙ sym c.breaks_bound.ensures ∙ c.if-breaks_bound.true) arch lies
+pub with-requires-in-Open-clause-small : goal.with-requires-in-Open-clause-small
+with-requires-in-Open-clause-small t c =
+    let known = known_parts c.args.problem.now c.args.cuts.now 0 c.bound_of.result in
+    let left = subst (IsLeft known c.args.cube) c.in-Open.is c.in_ok-narrowed.ensures in
+    let all : c.variable_count-count.result ≡ member_count c.args.problem.now.library = c.variable_count-count.ensures.count ∙ ap member_count c.library.ensures.library in
+    omega (arith, left.variable, all, c.variable_count-count.ensures.few)
 
-pub returns-then-next-variable_count-clause-kept : goal.returns-then-next-variable_count-clause-kept
-returns-then-next-variable_count-clause-kept t c cost known =
-    let full : c.args.next ≡ member_count c.args.problem.now.library = c.if-next-variable_count.true ∙ c.variable_count.ensures.count ∙ ap member_count c.library-lib.ensures.library in
-    let fixed = subst (λ (n : ℕ). FixesBelow n c.args.cube.now) full c.requires.«open» in
-    let less = cheaper c.args.problem.now.library c.args.cube.now c.args.best.now c.found_in.result.architecture fixed c.found_in.ensures.vector
-    (ap (λ (o : Option ℕ). list_any (λ row. is_refuted row c.args.cube.now) (option_to_list (option_map (cost_row_of c.args.problem.now.library) o))) (sym c.bound_of.ensures) ∙ sym c.breaks_bound.ensures ∙ c.if-breaks_bound.false) cost known in
-    omega (arith, less, c.found_in.ensures.found.cost)
+pub search-requires : goal.search-requires
+search-requires t c =
+    let known = known_parts c.args.problem.now c.args.cuts.now 0 c.bound_of.result in
+    let left = subst (IsLeft known c.args.cube) c.in-Open.is c.in_ok-narrowed.ensures in
+    let next = split_further known c.args.cube c.in-Open.cube c.with.result c.in-Open.variable.0 false left c.with.ensures.fixed in
+    grind (arith, next.0, next.1, c.requires.cuts, c.requires.found)
 
-pub returns-then-next-variable_count-clause-covered : goal.returns-then-next-variable_count-clause-covered
-returns-then-next-variable_count-clause-covered t c arch candidate lies =
-    let same = ap (cost_of c.args.problem.now.library) (c.found_in.ensures.only arch candidate lies) in
-    omega (arith, same, c.found_in.ensures.found.cost)
+pub search-requires-in-Open : goal.search-requires-in-Open
+search-requires-in-Open t c =
+    let known = known_parts c.args.problem.now c.args.cuts.now 0 c.bound_of.result in
+    let left = subst (IsLeft known c.args.cube) c.in-Open.is c.in_ok-narrowed.ensures in
+    let next = split_further known c.args.cube c.in-Open.cube c.with-in-Open.result c.in-Open.variable.0 true left c.with-in-Open.ensures.fixed in
+    grind (arith, next.0, next.1, c.requires.cuts, c.in_ok-best-in-Open.ensures.found)
 
-pub returns-clause-covered : goal.returns-clause-covered
-returns-clause-covered t c =
-    covered_both c.args.problem.now.library c.args.next c.args.cube.now c.with.result c.with-2.result c.search.new.best c.search-2.new.best c.with.ensures.lies c.with-2.ensures.lies c.search.ensures.covered c.search-2.ensures.kept c.search-2.ensures.covered
+pub returns-in-Nothing : goal.returns-in-Nothing
+returns-in-Nothing t c =
+    let known = known_parts c.args.problem.now c.args.cuts.now 0 c.bound_of.result in
+    nothing_left known c.args.best c.library.ensures.problem (λ arch good. tt) c.bound_of.ensures c.args.cube c.requires.found (subst (IsLeft known c.args.cube) c.in-Nothing.is c.in_ok-narrowed.ensures)
+
+pub returns-in-One : goal.returns-in-One
+returns-in-One t c =
+    let known = known_parts c.args.problem.now c.args.cuts.now 0 c.bound_of.result in
+    let left = subst (IsLeft known c.args.cube) c.in-One.is c.in_ok-narrowed.ensures in
+    searched_inside known c.args.best c.library.ensures.problem (λ arch good. tt) c.bound_of.ensures c.args.cube c.in-One.cube c.judged.result left.kept c.judged.ensures
+
+pub returns-in_ok-best-in-Open : goal.returns-in_ok-best-in-Open
+returns-in_ok-best-in-Open t c =
+    let known = known_parts c.args.problem.now c.args.cuts.now 0 c.bound_of.result in
+    let left = subst (IsLeft known c.args.cube) c.in-Open.is c.in_ok-narrowed.ensures in
+    let mid = c.in_ok-best-in-Open.best in
+    if_ok (IsSearched known.problem.library c.with-in-Open.result mid) (IsSearched known.problem.library c.args.cube c.args.best) c.search-in-Open.result
+    (λ now later. searched_open known c.args.best mid now c.library.ensures.problem (λ arch good. tt) c.bound_of.ensures c.args.cube c.in-Open.cube c.with.result c.with-in-Open.result c.in-Open.variable.0 left c.with.ensures.cube c.with.ensures.fixed c.with-in-Open.ensures.fixed c.in_ok-best-in-Open.ensures later)
+    c.search-in-Open.ensures

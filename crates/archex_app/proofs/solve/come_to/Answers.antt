@@ -1,5 +1,4 @@
 use Rattle.std.proofs.lemmas.Result.{err_from_is_err_and}
-use Rattle.lib_read.proofs.Unrequired.{no_requirements}
 use Rattle.archex_app.specs.ComesTo.{SolveComesTo}
 use Rattle.lib_read.specs.LibraryOf.{library_of}
 use Rattle.archex_app.specs.Refusal.{refused_library_text}
@@ -11,9 +10,6 @@ pub returns-in_err-lib-clause-settles : goal.returns-in_err-lib-clause-settles
 returns-in_err-lib-clause-settles g c =
     let p = err_from_is_err_and c.from_residual.result c.from_residual.ensures.1 in
     rw (p.1, p.2) (stops_at library_of library_refused refused_library_text (g.F.Shelf.told c.args.shelf.now) c.args.name.now SolveComesTo _ _ _ tt c.in_err-lib.ensures.stop)
-
-pub searched-requires : goal.searched-requires
-searched-requires g c = record { unrequired = no_requirements c.in_ok-lib.ensures.library.bytes c.in_ok-lib.lib c.in_ok-lib.ensures.library.is }
 
 pub returns-clause-settles : goal.returns-clause-settles
 returns-clause-settles g c =

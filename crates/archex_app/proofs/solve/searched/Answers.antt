@@ -1,13 +1,13 @@
-use Rattle.std.proofs.Common.{◌≤◌, refl, subst, ap, ◌∙◌, [], inl, inr}
+use Rattle.std.proofs.Common.{Option, refl, subst, ap, ◌∙◌, [], inl, inr}
+use Rattle.std.specs.Prelude.{IfSome, IfNone}
 use Rattle.arch_model.specs.Parts.{LibraryParts, ArchitectureParts}
-use Rattle.arch_model.specs.Architecture.{cost_of}
+use Rattle.arch_model.specs.Admissible.{IsAdmissible}
 use Rattle.rows.specs.Parts.{ProblemParts}
-use Rattle.rows.specs.Problem.{IsCandidate}
+use Rattle.archex_app.specs.declared.search.Found.{Found}
+use Rattle.archex_app.specs.Cheapest.{IsCheapest}
 use Rattle.archex_app.specs.Due.{ends}
 use Rattle.archex_app.specs.Status.{done, infeasible}
 use Rattle.archex_app.specs.Report.{optimal_text}
-use Rattle.archex_app.specs.Inner.Search.{IsFound}
-use Rattle.archex_app.proofs.Unrequired.{found_is_cheapest, none_meets}
 use Rattle.archex_app.proofs.solve.searched.Goals as goal
 
 pub returns-in-Some : goal.returns-in-Some
@@ -19,9 +19,7 @@ returns-in-Some c =
       ended_so = refl;
       due = inl (
         c.in-Some.best.architecture,
-        found_is_cheapest c.args.lib c.in-Some.best c.requires.unrequired
-            (subst (λ (lib : LibraryParts). IsFound lib c.in-Some.best) same c.in-Some.ensures.found)
-            (subst (λ (lib : LibraryParts). (arch : ArchitectureParts) → IsCandidate lib arch → c.in-Some.best.cost ≤ cost_of lib arch) same c.in-Some.ensures.least),
+        subst (λ (lib : LibraryParts). IsCheapest lib c.in-Some.best.architecture) same (subst (λ (o : Option Found). IfSome o (λ found. IsCheapest c.in_ok-problem.problem.library found.architecture)) c.in-Some.is c.in_ok-cheapest.ensures.cheapest),
         ap (ends done []) (c.in_ok-text-in-Some.ensures ∙ ap (λ (lib : LibraryParts). optimal_text lib c.in-Some.best.architecture) (c.library.ensures.library ∙ same)),
       );
     }
@@ -34,7 +32,7 @@ returns c =
       settled = tt;
       ended_so = refl;
       due = inr (
-        none_meets c.args.lib c.requires.unrequired (subst (λ (lib : LibraryParts). (arch : ArchitectureParts) → IsCandidate lib arch → ⊥) same c.in-None.ensures.none),
+        subst (λ (lib : LibraryParts). (arch : ArchitectureParts) → IsAdmissible lib arch → ⊥) same (subst (λ (o : Option Found). IfNone o ((arch : ArchitectureParts) → IsAdmissible c.in_ok-problem.problem.library arch → ⊥)) c.in-None.is c.in_ok-cheapest.ensures.none),
         refl,
       );
     }
