@@ -12,7 +12,7 @@ use Rattle.atomic_table.specs.Table.{State}
 use Rattle.pool_gate.specs.declared.view.SeatView.{SeatView}
 use Rattle.pool_gate.specs.Views.{down_from}
 use Rattle.pool_gate.specs.Rule.{Sits, NobodyTurns, OneTurns, IsHome, RuleHolds}
-use Rattle.pool_gate.specs.Inner.Between.{AtHome, InTurn, Between}
+use Rattle.pool_gate.specs.Between.{AtHome, InTurn, Between}
 use Rattle.pool_gate.proofs.Lists.{down_low, contains_none}
 
 down_high : (n k d : ℕ) → k < length (down_from n) → 1 ≤ get_or (down_from n) k d

@@ -1,10 +1,10 @@
--- For the code's own contracts: the gate's rule in the form that each step is proved to keep. It gives the rule (`laws`).
-use Rattle.std.specs.Prelude.{◌≡◌, ◌≢◌, ℕ, ◌+◌, ◌*◌, ◌<◌, ◌≤◌, ◌⊎◌, true, false, List, [], ◌∷◌, Option, Some, None, Contains}
+-- The gate's rule in the form that each step is proved to keep. It says more than the rule, to which `laws::the_rule_holds` leads.
+use Rattle.std.specs.Prelude.{◌≡◌, ◌≢◌, ℕ, ◌+◌, ◌*◌, ◌<◌, ◌≤◌, ◌⊎◌, true, false, List, [], ◌∷◌, Option, Some, Contains}
 use mathlib.Core.Option.{some, none}
 use lib.ListN.{get_elem?}
 use Rattle.atomic_table.specs.Table.{State}
 use Rattle.pool_gate.specs.declared.view.SeatView.{SeatView}
-use Rattle.pool_gate.specs.Views.{down_from}
+use Rattle.pool_gate.specs.Views.{down_from, spent}
 use Rattle.pool_gate.specs.Rule.{Sits}
 
 module _ {V A : Type 0} (about : V → A) (count : V → ℕ) where
@@ -46,7 +46,7 @@ module _ {V A : Type 0} (about : V → A) (count : V → ℕ) where
     pub others_are_new : (i : ℕ) (v : SeatView A) → Sits topic s.views i v → i ≢ 0 → spares < v.number
     pub others_have_none : (i : ℕ) (v : SeatView A) → Sits topic s.views i v → i ≢ 0 → (v.spare ≡ []) × (v.away ≡ [])
     pub numbers_differ : (i j : ℕ) (v w : SeatView A) → Sits topic s.views i v → Sits topic s.views j w → v.number ≡ w.number → i ≡ j
-    -- a view that knows of no value is spent
-    pub one_topic : (i : ℕ) (v : SeatView A) → get_elem? s.views i ≡ some v → (v.about ≡ Some topic) ⊎ (v.about ≡ None)
+    -- a view that doesn't know the topic is spent
+    pub one_topic : (i : ℕ) (v : SeatView A) → get_elem? s.views i ≡ some v → (v.about ≡ Some topic) ⊎ (v ≡ spent)
     pub seen_is_old : (i : ℕ) (v : SeatView A) → Sits topic s.views i v → v.seen ≤ half
     pub stage : AtHome topic half s ⊎ InTurn topic half s

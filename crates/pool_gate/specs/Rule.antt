@@ -1,10 +1,11 @@
 -- The gate's rule: what holds between any two steps, whichever seats make them and in whatever order.
-use Rattle.std.specs.Prelude.{◌≡◌, ◌≢◌, ℕ, ◌/◌, ◌%◌, ◌≤◌, ◌⊎◌, true, false, List, [], ◌∷◌, Option, Some, None, Contains, slice_index}
+use Rattle.std.specs.Prelude.{◌≡◌, ◌≢◌, ℕ, ◌/◌, ◌%◌, ◌≤◌, ◌⊎◌, true, false, List, [], ◌∷◌, Option, Some, Contains, slice_index}
 use Rattle.std.specs.List.{AllPairs}
 use mathlib.Core.Option.{some, none}
 use lib.ListN.{get_elem?}
 use Rattle.atomic_table.specs.Table.{State}
 use Rattle.pool_gate.specs.declared.view.SeatView.{SeatView}
+use Rattle.pool_gate.specs.Views.{spent}
 
 -- seat i has the view v, and wasn't joined into another
 abbrev pub Sits : {A : Type 0} → A → List (SeatView A) → ℕ → SeatView A → Type 0
@@ -50,8 +51,8 @@ module _ {V A : Type 0} (about : V → A) (count : V → ℕ) where
     pub one_turn : ((slice_index s.words 0 % 2 ≡ 0) × NobodyTurns topic s.views) ⊎ ((slice_index s.words 0 % 2 ≡ 1) × OneTurns topic s.views)
     -- each seat has seen at most half of the word, rounded down, and the one in a turn has seen just that
     pub seen_is_old : (i : ℕ) (v : SeatView A) → Sits topic s.views i v → (v.seen ≤ slice_index s.words 0 / 2) × (v.in_turn ≡ true → v.seen ≡ slice_index s.words 0 / 2)
-    -- all seats know the topic: a view that knows of none was joined into another
-    pub one_topic : (i : ℕ) (v : SeatView A) → get_elem? s.views i ≡ some v → (v.about ≡ Some topic) ⊎ (v.about ≡ None)
+    -- all seats know the topic: another view is the spent one, of a seat that was joined into another
+    pub one_topic : (i : ℕ) (v : SeatView A) → get_elem? s.views i ≡ some v → (v.about ≡ Some topic) ⊎ (v ≡ spent)
     -- where the word is even the value is at home, of half of the word, and about the topic
     pub value_is_home : slice_index s.words 0 % 2 ≡ 0 → IsHome topic (slice_index s.words 0 / 2) s
     -- where it is odd the slot is lent to the seat in a turn

@@ -60,6 +60,9 @@ pub struct Unopened<V: Held> {
     pub value: V,
 }
 
+/// How many seats a gate may have.
+pub const SEATS: u32 = 64;
+
 /// A gate for a value, and its first seat, with number 0 and the numbers from 1 up to the number of
 /// seats to give out. The only error is want of memory, and hands the value back.
 pub fn open_gate<V: Held>(
@@ -67,7 +70,7 @@ pub fn open_gate<V: Held>(
     value: V,
     seats: u32,
 ) -> Result<(Gate<V>, GateSeat<V>), Unopened<V>>
-    requires { (1 ≤ seats) × (seats ≤ 64) }
+    requires { (1 ≤ seats) × (seats ≤ SEATS) }
     ensures gate { IfOk result (λ g. g.1.gate ≡ g.0) }
     ensures seat { IfOk result (λ g. g.1.view ≡ opened_view (V.about value) (V.count value) seats) }
     ensures unopened { IfErr result (λ u. u.value ≡ value) }

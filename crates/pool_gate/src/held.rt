@@ -1,5 +1,8 @@
 // What may lie behind a gate.
-ghost use Rattle.std.specs.Prelude.{◌≡◌, ℕ, ◌^◌, ◌<◌};
+ghost use Rattle.std.specs.Prelude.{◌≡◌, ℕ, ◌<◌};
+
+/// Every count is below this, 2^62, so that the word that has twice of it and one more fits.
+pub const COUNTS: u64 = 4611686018427387904;
 
 /// A value that may lie behind a gate. It has two meanings: what it is about, and its count. Its
 /// one function reads the count, so a gate can neither make, copy nor change such a value.
@@ -16,5 +19,5 @@ pub trait Held: Drop {
     /// Reads the count.
     fn count(&self) -> u64
         ensures exact { result ≡ count self.now }
-        ensures small { result < 2 ^ 62 };
+        ensures small { result < COUNTS };
 }

@@ -5,7 +5,7 @@ ghost use mathlib.Core.Option as maybe;
 ghost use Rattle.atomic_table.specs.Table.{State, Me, Allows, Splits, Joins, opening, step};
 ghost use Rattle.pool_gate.specs.Views.{opened_view, parted, fresh, joined, spent};
 ghost use Rattle.pool_gate.specs.Rule.{Sits, RuleHolds};
-ghost use Rattle.pool_gate.specs.Inner.Between.{Between};
+ghost use Rattle.pool_gate.specs.Between.{Between};
 ghost use Rattle.pool_gate.specs.Plays.{Tried, GaveBack};
 
 use crate::held::Held;

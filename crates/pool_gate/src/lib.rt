@@ -26,7 +26,7 @@ mod seat;
 mod tests;
 mod view;
 
-pub use gate::{Busy, Gate, Turn, Unopened, open_gate};
-pub use held::Held;
+pub use gate::{Busy, Gate, SEATS, Turn, Unopened, open_gate};
+pub use held::{COUNTS, Held};
 pub use seat::GateSeat;
 pub use view::SeatView;

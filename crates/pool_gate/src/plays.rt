@@ -1,6 +1,6 @@
 // The gate's rule, and what each step tells.
 ghost use Rattle.pool_gate.specs.Views.{opened_view, parted, fresh, joined, spent};
-ghost use Rattle.pool_gate.specs.Inner.Between.{Between};
+ghost use Rattle.pool_gate.specs.Between.{Between};
 ghost use Rattle.pool_gate.specs.Plays.{Tried, GaveBack};
 
 use crate::held::Held;
