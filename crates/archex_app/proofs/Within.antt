@@ -2,7 +2,7 @@
 use Rattle.std.proofs.Common.{◌≡◌, ℕ, zero, suc, ◌<◌, Option, List, [], ◌∷◌, Ok, Err, Result, refl, sym, subst, inl, inr, ◌⊎◌, arith}
 use Rattle.std.specs.Prelude.{MatchResult, Contains, slice_index_or}
 use Rattle.arch_model.specs.Parts.{LibraryParts, ArchitectureParts}
-use Rattle.arch_model.specs.Admissible.{MeetsPatterns}
+use Rattle.arch_model.specs.Admissible.{IsAdmissible}
 use Rattle.lib_read.specs.LibraryOf.{library_of}
 use Rattle.arch_model.specs.Mass.{enclosure_of}
 use Rattle.arch_csv.specs.ArchitectureOf.{architecture_of_bytes}
@@ -126,7 +126,7 @@ at_3 u v w x xs = (3, omega arith, refl)
 
 solve_within : (lib : List ℕ) (l : LibraryParts) → Within (λ due. SolveComesTo l due) (endings_of (solve lib)) (lib ∷ []) []
 solve_within lib l =
-    either_within (λ due. (arch : ArchitectureParts) × IsCheapest l arch × EndsWith done (optimal_text l arch) due) (λ due. ((arch : ArchitectureParts) → MeetsPatterns l arch → ⊥) × EndsWith infeasible infeasible_text due) _ _ _
+    either_within (λ due. (arch : ArchitectureParts) × IsCheapest l arch × EndsWith done (optimal_text l arch) due) (λ due. ((arch : ArchitectureParts) → IsAdmissible l arch → ⊥) × EndsWith infeasible infeasible_text due) _ _ _
     (some_within (IsCheapest l) (λ (arch : ArchitectureParts). EndsWith done (optimal_text l arch)) _ _ _ (λ arch. ends_within done _ _ _ _ (at_0 done (infeasible ∷ library_refused ∷ []))))
     (given_within (EndsWith infeasible infeasible_text) _ _ _ (ends_within infeasible _ _ _ _ (at_1 done infeasible (library_refused ∷ []))))
 
