@@ -1,13 +1,13 @@
 -- The ascent, row after row.
 use Rattle.std.proofs.Common.{◌≡◌, ◌≢◌, ℕ, zero, suc, ◌+◌, ◌^◌, ◌<◌, ◌≤◌, min, pos, int_lt, Bool, true, false, cond, not, ◌&&◌, nat_lt, nat_le, List, [], ◌∷◌, ◌++◌, map, fold, drop, set, replicate, length, get_or, slice_get, Option, Some, None, IfSome, IsTrue, IsSome, is_some, option_map, refl, sym, ap, subst, ◌∙◌, arith, inl, inr}
 use Rattle.std.specs.Prelude.{filter_map, slice_index}
-use Rattle.std.specs.List.{All, AllByRecursion, enumerate_from, cons_option}
+use Rattle.std.specs.List.{AllByRecursion, enumerate_from, cons_option}
 use Rattle.std.proofs.lemmas.Bool.{lt-ltb, cases_lt}
 use Rattle.std.proofs.lemmas.Bool.Decides.{eqb_tells, nat_tests}
 use Rattle.std.proofs.lemmas.List.{length-append, drop_more, length-take, get_or-take, get_or_past, length-set, get_or-set_same, get_or-set_other, length-replicate, length-map}
-use Rattle.std.proofs.lemmas.List.Elements.{recursion_from_All, All-push, All-take, All-weaker}
+use Rattle.std.proofs.lemmas.List.Elements.{recursion_from_All, All-push}
 use Rattle.std.proofs.lemmas.Option.{slice_get-get_or, get_or_from_slice_get, slice_get_within}
-use Rattle.arch_model.specs.Set.{has, put, empty}
+use Rattle.arch_model.specs.Set.{has, empty}
 use Rattle.arch_model.specs.declared.template.Component.{Component}
 use Rattle.arch_model.specs.declared.template.Edge.{Edge}
 use Rattle.arch_model.specs.Parts.{LibraryParts}
@@ -19,17 +19,13 @@ use Rattle.rows.specs.declared.known.RowRef.{RowRef}
 use Rattle.rows.specs.declared.known.RowRef.TheVariants.{Base, Cut, Cost}
 use Rattle.rows.specs.Parts.{RowParts, CutParts, CubeParts, KnownParts}
 use Rattle.rows.specs.Row.{IsRowBelow, row_of_cut, value_of, coef_at}
-use Rattle.rows.specs.Cube.{IsFull, value_at, fixed_at}
-use Rattle.rows.specs.Activity.{is_refuted}
+use Rattle.rows.specs.Cut.{IsCut}
 use Rattle.rows.specs.BaseRows.{member_cost_of, costs_of, cost_row_of}
 use Rattle.rows.specs.Reason.{AllThere}
-use Rattle.rows.specs.Known.{variables, known_cuts, has_row, row_at, IsKnown, IsCutBelow}
+use Rattle.rows.specs.Known.{known_cuts, has_row, IsKnown}
 use Rattle.rows.specs.Ascent.{Ascent, quotient_at, times_of, left_of, is_worth, with_row, looked_at, ascent_start, whole_ascent}
-use Rattle.rows.proofs.CubeLaws.{activity_is_value}
-use Rattle.rows.proofs.SetFacts.{has-put_keeps}
-use Rattle.rows.proofs.WhatIsForced.{has-put_same}
 use Rattle.rows.proofs.TraceLaws.{cut_below}
-use Rattle.row_bounds.specs.Inner.Climb.{Follows, IsRising, IsPrepared, base_named, cuts_named, quotient_by}
+use Rattle.row_bounds.specs.Inner.Climb.{Follows, IsRising, is_wanting, base_named, cuts_named, quotient_by}
 use Rattle.row_bounds.proofs.SpendLaws.{fold_append, quotient_same}
 
 -- options
@@ -39,6 +35,17 @@ some_at {X = X} P o x h e = let Q : Option X → Type 0 = λ p. IfSome p P in su
 pub each_some : {X : Type 0} (P : X → Type 0) (o : Option X) → ((x : X) → o ≡ Some x → P x) → IfSome o P
 each_some P (Some x) each = each x refl
 each_some P None each = tt
+
+pub at_some : {X : Type 0} (P : X → Type 0) (o : Option X) (x : X) → o ≡ Some x → P x → IfSome o P
+at_some {X = X} P o x e h = let Q : Option X → Type 0 = λ p. IfSome p P in subst Q (sym e) h
+
+pub off_by : (b : Bool) → not b ≡ true → b ≡ false
+off_by true h = sym h
+off_by false h = refl
+
+pub on_by : (b : Bool) → not b ≡ false → b ≡ true
+on_by true h = refl
+on_by false h = sym h
 
 -- one row that is looked at
 same_quotient : (cube : CubeParts) (f g : ℕ → ℕ) (t : Term) → f t.var.0 ≡ g t.var.0 → quotient_at cube f t ≡ quotient_at cube g t
@@ -76,30 +83,27 @@ none_or k e = grind (arith, nat_tests)
 some_or : (k : ℕ) → 1 ≤ k → nat_le 1 k ≡ true
 some_or k e = grind (arith, nat_tests)
 
-module _ (cube zeros : CubeParts) (n : ℕ) (pairs : List Pair) (residues : List ℕ) (a : Ascent) (r : RowRef) (row : RowParts) (f : Follows pairs residues a) (below : IsRowBelow MEMBERS row) (near : IsRowBelow n row) (full : IsFull n zeros) (ones : zeros.ones ≡ cube.ones) where
-  worth_is : is_refuted row zeros ≡ int_lt (value_of row.terms (has cube.ones)) row.least
-  worth_is = ap (λ z. int_lt z row.least) (activity_is_value n row zeros near full ∙ ap (λ s. value_of row.terms (has s)) ones)
-
+module _ (cube : CubeParts) (pairs : List Pair) (residues : List ℕ) (a : Ascent) (r : RowRef) (row : RowParts) (f : Follows pairs residues a) (below : IsRowBelow MEMBERS row) where
   times_is : times_of cube (slice_index residues) row ≡ times_of cube a.residue row
   times_is = ap (fold min (10 ^ 12)) (quotients_agree cube (slice_index residues) a.residue f.residue row.terms (recursion_from_All (λ (t : Term). t.var.0 < MEMBERS) row.terms below))
 
-  pub past_met : is_refuted row zeros ≡ false → Follows pairs residues (looked_at cube a (r, row))
+  pub past_met : is_wanting cube row ≡ false → Follows pairs residues (looked_at cube a (r, row))
   past_met off =
       not_chosen pairs residues (nat_lt (length a.pairs) 64 && is_worth cube row (times_of cube a.residue row)) (with_row a r row (times_of cube a.residue row)) a
-      (third_false (nat_lt (length a.pairs) 64) (nat_le 1 (times_of cube a.residue row)) (int_lt (value_of row.terms (has cube.ones)) row.least) (sym worth_is ∙ off)) f
+      (third_false (nat_lt (length a.pairs) 64) (nat_le 1 (times_of cube a.residue row)) (int_lt (value_of row.terms (has cube.ones)) row.least) off) f
 
   pub past_none : times_of cube (slice_index residues) row ≡ 0 → Follows pairs residues (looked_at cube a (r, row))
   past_none none =
       not_chosen pairs residues (nat_lt (length a.pairs) 64 && is_worth cube row (times_of cube a.residue row)) (with_row a r row (times_of cube a.residue row)) a
       (second_false (nat_lt (length a.pairs) 64) (nat_le 1 (times_of cube a.residue row)) (int_lt (value_of row.terms (has cube.ones)) row.least) (none_or (times_of cube a.residue row) (sym times_is ∙ none))) f
 
-  pub row_added : (k : ℕ) (more : List Pair) (left : List ℕ) → length pairs < 64 → is_refuted row zeros ≡ true → k ≡ times_of cube (slice_index residues) row → 1 ≤ k → more ≡ pairs ++ record { row = r; times = k } ∷ []
+  pub row_added : (k : ℕ) (more : List Pair) (left : List ℕ) → length pairs < 64 → is_wanting cube row ≡ true → k ≡ times_of cube (slice_index residues) row → 1 ≤ k → more ≡ pairs ++ record { row = r; times = k } ∷ []
       → ((v : ℕ) → v < MEMBERS → slice_index left v ≡ left_of k (coef_at row.terms v) (slice_index residues v)) → Follows more left (looked_at cube a (r, row))
   row_added k more left few on is some grown taken =
       let same : k ≡ times_of cube a.residue row = is ∙ times_is in
       let short : length a.pairs < 64 = omega (arith, ap length f.same, few) in
       chosen more left (nat_lt (length a.pairs) 64 && is_worth cube row (times_of cube a.residue row)) (with_row a r row (times_of cube a.residue row)) a
-      (all_true (nat_lt (length a.pairs) 64) (nat_le 1 (times_of cube a.residue row)) (int_lt (value_of row.terms (has cube.ones)) row.least) (lt-ltb (length a.pairs) 64 short) (some_or (times_of cube a.residue row) (omega (arith, same, some))) (sym worth_is ∙ on))
+      (all_true (nat_lt (length a.pairs) 64) (nat_le 1 (times_of cube a.residue row)) (int_lt (value_of row.terms (has cube.ones)) row.least) (lt-ltb (length a.pairs) 64 short) (some_or (times_of cube a.residue row) (omega (arith, same, some))) on)
       (record {
         same = grown ∙ ap (λ p. p ++ record { row = r; times = k } ∷ []) f.same ∙ ap (λ m. a.pairs ++ record { row = r; times = m } ∷ []) same;
         residue = λ v low. taken v low ∙ ap (left_of k (coef_at row.terms v)) (f.residue v low) ∙ ap (λ m. left_of m (coef_at row.terms v) (a.residue v)) same;
@@ -172,71 +176,9 @@ whole_there known cube pairs same some =
     let Q : List Pair → Type 0 = AllThere known in
     subst Q (sym same) whole
 
--- base rows and cuts, from the option that has them
-module _ (known : KnownParts) (cube zeros : CubeParts) (ready : IsPrepared known cube zeros) where
-  base_near : (i : ℕ) (row : RowParts) → slice_get known.problem.base i ≡ Some row → IsRowBelow (variables known) row
-  base_near i row at =
-      let within = slice_get_within known.problem.base i row at in
-      let P : RowParts → Type 0 = IsRowBelow (variables known) in
-      subst P (get_or_from_slice_get known.problem.base i row row at) (ready.problem.decide.variables i row within)
-
-  wider : (row : RowParts) → IsRowBelow (variables known) row → IsRowBelow MEMBERS row
-  wider row near = All-weaker (λ (t : Term). t.var.0 < variables known) (λ t. t.var.0 < MEMBERS) (λ t less. omega (arith, less, ready.few)) row.terms near
-
-  cut_near : (j : ℕ) (cut : CutParts) → slice_get (known_cuts known) j ≡ Some cut → IsRowBelow (variables known) (row_of_cut cut)
-  cut_near j cut at =
-      let within = slice_get_within (known_cuts known) j cut at in
-      let all : All (IsCutBelow (variables known)) (known_cuts known) = All-take (IsCutBelow (variables known)) known.upto known.cuts ready.is_known.cuts in
-      let P : CutParts → Type 0 = IsCutBelow (variables known) in
-      cut_below (variables known) cut (subst P (get_or_from_slice_get (known_cuts known) j cut cut at) (all j cut within))
-
-  module _ (pairs : List Pair) (residues : List ℕ) where
-    -- a base row that is passed over, or added
-    module _ (i : ℕ) (told : Bool) (test : IfSome (slice_get known.problem.base i) (λ row. told ≡ is_refuted row zeros)) where
-      base_test : (row : RowParts) → slice_get known.problem.base i ≡ Some row → told ≡ is_refuted row zeros
-      base_test row at = some_at (λ (x : RowParts). told ≡ is_refuted x zeros) (slice_get known.problem.base i) row test at
-
-      pub base_met : told ≡ false → (a : Ascent) → Follows pairs residues a → IfSome (slice_get known.problem.base i) (λ row. Follows pairs residues (looked_at cube a (Base i, row)))
-      base_met off a f =
-          each_some (λ (row : RowParts). Follows pairs residues (looked_at cube a (Base i, row))) (slice_get known.problem.base i)
-          (λ row at. past_met cube zeros (variables known) pairs residues a (Base i) row f (wider row (base_near i row at)) (base_near i row at) ready.full ready.ones (sym (base_test row at) ∙ off))
-
-      pub base_none : (row : RowParts) → slice_get known.problem.base i ≡ Some row → times_of cube (slice_index residues) row ≡ 0 → (a : Ascent) → Follows pairs residues a
-          → IfSome (slice_get known.problem.base i) (λ x. Follows pairs residues (looked_at cube a (Base i, x)))
-      base_none row at none a f =
-          let P : Option RowParts → Type 0 = λ o. IfSome o (λ x. Follows pairs residues (looked_at cube a (Base i, x))) in
-          subst P (sym at) (past_none cube zeros (variables known) pairs residues a (Base i) row f (wider row (base_near i row at)) (base_near i row at) ready.full ready.ones none)
-
-      pub base_added : (row : RowParts) → slice_get known.problem.base i ≡ Some row → (k : ℕ) (more : List Pair) (left : List ℕ) → length pairs < 64 → told ≡ true → k ≡ times_of cube (slice_index residues) row → 1 ≤ k
-          → more ≡ pairs ++ record { row = Base i; times = k } ∷ [] → ((v : ℕ) → v < MEMBERS → slice_index left v ≡ left_of k (coef_at row.terms v) (slice_index residues v)) → (a : Ascent) → Follows pairs residues a
-          → IfSome (slice_get known.problem.base i) (λ x. Follows more left (looked_at cube a (Base i, x)))
-      base_added row at k more left few on is some grown taken a f =
-          let P : Option RowParts → Type 0 = λ o. IfSome o (λ x. Follows more left (looked_at cube a (Base i, x))) in
-          subst P (sym at) (row_added cube zeros (variables known) pairs residues a (Base i) row f (wider row (base_near i row at)) (base_near i row at) ready.full ready.ones k more left few (sym (base_test row at) ∙ on) is some grown taken)
-
-    -- a cut
-    module _ (j : ℕ) (told : Bool) (test : IfSome (row_at known (Cut j)) (λ row. told ≡ is_refuted row zeros)) where
-      cut_test : (cut : CutParts) → slice_get (known_cuts known) j ≡ Some cut → told ≡ is_refuted (row_of_cut cut) zeros
-      cut_test cut at = some_at (λ (x : RowParts). told ≡ is_refuted x zeros) (row_at known (Cut j)) (row_of_cut cut) test (ap (option_map row_of_cut) at)
-
-      pub cut_met : told ≡ false → (a : Ascent) → Follows pairs residues a → IfSome (slice_get (known_cuts known) j) (λ cut. Follows pairs residues (looked_at cube a (Cut j, row_of_cut cut)))
-      cut_met off a f =
-          each_some (λ (cut : CutParts). Follows pairs residues (looked_at cube a (Cut j, row_of_cut cut))) (slice_get (known_cuts known) j)
-          (λ cut at. past_met cube zeros (variables known) pairs residues a (Cut j) (row_of_cut cut) f (wider (row_of_cut cut) (cut_near j cut at)) (cut_near j cut at) ready.full ready.ones (sym (cut_test cut at) ∙ off))
-
-      pub cut_none : (cut : CutParts) → slice_get (known_cuts known) j ≡ Some cut → times_of cube (slice_index residues) (row_of_cut cut) ≡ 0 → (a : Ascent) → Follows pairs residues a
-          → IfSome (slice_get (known_cuts known) j) (λ x. Follows pairs residues (looked_at cube a (Cut j, row_of_cut x)))
-      cut_none cut at none a f =
-          let P : Option CutParts → Type 0 = λ o. IfSome o (λ x. Follows pairs residues (looked_at cube a (Cut j, row_of_cut x))) in
-          subst P (sym at) (past_none cube zeros (variables known) pairs residues a (Cut j) (row_of_cut cut) f (wider (row_of_cut cut) (cut_near j cut at)) (cut_near j cut at) ready.full ready.ones none)
-
-      pub cut_added : (cut : CutParts) → slice_get (known_cuts known) j ≡ Some cut → (k : ℕ) (more : List Pair) (left : List ℕ) → length pairs < 64 → told ≡ true → k ≡ times_of cube (slice_index residues) (row_of_cut cut) → 1 ≤ k
-          → more ≡ pairs ++ record { row = Cut j; times = k } ∷ [] → ((v : ℕ) → v < MEMBERS → slice_index left v ≡ left_of k (coef_at (row_of_cut cut).terms v) (slice_index residues v)) → (a : Ascent) → Follows pairs residues a
-          → IfSome (slice_get (known_cuts known) j) (λ x. Follows more left (looked_at cube a (Cut j, row_of_cut x)))
-      cut_added cut at k more left few on is some grown taken a f =
-          let P : Option CutParts → Type 0 = λ o. IfSome o (λ x. Follows more left (looked_at cube a (Cut j, row_of_cut x))) in
-          subst P (sym at)
-          (row_added cube zeros (variables known) pairs residues a (Cut j) (row_of_cut cut) f (wider (row_of_cut cut) (cut_near j cut at)) (cut_near j cut at) ready.full ready.ones k more left few (sym (cut_test cut at) ∙ on) is some grown taken)
+-- the row of a cut is over the variables that there can be
+pub cut_inside : (cut : CutParts) → IsCut cut → IsRowBelow MEMBERS (row_of_cut cut)
+cut_inside cut ok = cut_below MEMBERS cut (record { plus = ok.small_plus; minus = ok.small_minus })
 
 -- a cut of a number, as the list of all cuts and that of the known ones have it
 pub known_cut : (known : KnownParts) (j : ℕ) (cut : CutParts) → j < known.upto → slice_get known.cuts j ≡ Some cut → slice_get (known_cuts known) j ≡ Some cut
@@ -359,38 +301,6 @@ costs_all lib costs i v to all = elim (cases_lt v i) [
   | inl near ↦ to.done v near
   | inr far ↦ to.rest v far ∙ sym (no_cost lib v (omega (arith, far, all)))
 ]
-
--- a cube with what is free at 0
-pub record ZerosTo (start zeros : CubeParts) (i : ℕ) : Type 0 where
-  pub fixed : (v : ℕ) → v < i → has zeros.fixed v ≡ true
-  pub ones : zeros.ones ≡ start.ones
-
-pub zeros_put : (start zeros next : CubeParts) (i : ℕ) → ZerosTo start zeros i → next ≡ fixed_at zeros i false → ZerosTo start next (i + 1)
-zeros_put start zeros next i to is =
-    let P : CubeParts → Type 0 = λ c. ZerosTo start c (i + 1) in
-    subst P (sym is) (record {
-      fixed = λ v near. elim (eqb_tells i v) [
-        | inl same ↦ ap (has (put zeros.fixed i)) (sym same.1) ∙ has-put_same zeros.fixed i
-        | inr other ↦ let less : v < i = omega (arith, near, other.1) in has-put_keeps zeros.fixed i v (to.fixed v less)
-      ];
-      ones = to.ones;
-    })
-
-fixed_when : (f o : Bool) → is_some (cond f (Some o) None) ≡ true → f ≡ true
-fixed_when true o h = refl
-fixed_when false o h = absurd (let e : false ≡ true = h in cc)
-
-pub zeros_past : (start zeros next : CubeParts) (i : ℕ) (r : Option Bool) (none : Bool) → ZerosTo start zeros i → next ≡ zeros → r ≡ value_at zeros i → is_some r ≡ not none → none ≡ false → ZerosTo start next (i + 1)
-zeros_past start zeros next i r none to is value told some =
-    let on : has zeros.fixed i ≡ true = fixed_when (has zeros.fixed i) (has zeros.ones i) (sym (ap is_some value) ∙ told ∙ ap not some) in
-    let P : CubeParts → Type 0 = λ c. ZerosTo start c (i + 1) in
-    subst P (sym is) (record {
-      fixed = λ v near. elim (eqb_tells i v) [
-        | inl same ↦ ap (has zeros.fixed) (sym same.1) ∙ on
-        | inr other ↦ let less : v < i = omega (arith, near, other.1) in to.fixed v less
-      ];
-      ones = to.ones;
-    })
 
 -- numbers that stay low
 pub record LowTo (numbers : List ℕ) (m : ℕ) : Type 0 where

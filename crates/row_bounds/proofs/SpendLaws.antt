@@ -1,25 +1,28 @@
 -- What rows take of the residues.
-use Rattle.std.proofs.Common.{◌≡◌, ◌≢◌, ℕ, zero, suc, ◌+◌, ◌-◌, ◌*◌, ◌/◌, ◌^◌, ◌<◌, ◌≤◌, min, ℤ, pos, negsuc, ◌+ℤ◌, ◌≤ℤ◌, ◌<ℤ◌, unsigned_abs, Bool, true, false, cond, not, ◌&&◌, ◌||◌, nat_eq, List, [], ◌∷◌, ◌++◌, map, filter, fold, take, set, length, get_or, Option, Some, None, refl, sym, ap, subst, ◌∙◌, arith, inl, inr, if◌then◌else◌}
+use Rattle.std.proofs.Common.{◌≡◌, ◌≢◌, ℕ, zero, suc, ◌+◌, ◌-◌, ◌*◌, ◌/◌, ◌^◌, ◌<◌, ◌≤◌, min, ℤ, pos, negsuc, ◌+ℤ◌, ◌-ℤ◌, to_z, of_z, ◌≤ℤ◌, ◌<ℤ◌, unsigned_abs, Bool, true, false, cond, not, ◌&&◌, ◌||◌, nat_eq, List, [], ◌∷◌, ◌++◌, map, filter, fold, take, set, length, get_or, Option, Some, None, refl, sym, ap, subst, ◌∙◌, arith, inl, inr, if◌then◌else◌}
 use Rattle.std.specs.Prelude.{filter_map}
-use Rattle.std.specs.List.{AllByRecursion, range_with_len, cons_option}
+use Rattle.std.specs.Int.{w128}
+use Rattle.std.specs.List.{All, AllByRecursion, range_with_len, cons_option}
 use Rattle.std.proofs.lemmas.Int.{ints}
 use Rattle.std.proofs.lemmas.Bool.Decides.{eqb_tells}
 use Rattle.std.proofs.lemmas.List.{take_more, take_all, length-set, get_or-set_same, get_or-set_other}
 use Rattle.std.proofs.lemmas.List.Elements.{filter_map-append, recursion_from_All}
 use Rattle.std.proofs.Math.IntN.{+ℤ_idl, +ℤ_idr}
-use Rattle.arch_model.specs.Set.{Set, has, union, minus, members_below}
+use Rattle.arch_model.specs.Set.{Set, has, len, union, intersection, minus, members_below}
 use Rattle.arch_model.specs.Member.{is_in}
 use Rattle.arch_model.specs.declared.limits.TheConstants.{MEMBERS}
-use Rattle.arch_model.proofs.SetLaws.{has-union, has-minus}
-use Rattle.arch_model.proofs.Members.{is_in-members, has-from_members}
+use Rattle.arch_model.proofs.SetLaws.{has-union, has-intersection, has-minus}
+use Rattle.arch_model.proofs.Members.{is_in-members, has-from_members, and_left}
+use Rattle.arch_model.proofs.Counting.{len-members}
 use Rattle.rows.specs.declared.row.Term.{Term}
 use Rattle.rows.specs.Parts.{RowParts, CutParts, CubeParts}
-use Rattle.rows.specs.Row.{IsRow, IsSized, coef_at, cut_coef, row_of_cut, term}
+use Rattle.rows.specs.Row.{IsRow, IsSized, coef_at, cut_coef, row_of_cut, term, value_of}
 use Rattle.rows.specs.Cut.{IsCut}
 use Rattle.rows.specs.Ascent.{quotient_at, times_of, left_of}
-use Rattle.rows.proofs.Activities.{blank}
+use Rattle.rows.proofs.Activities.{blank, plain}
 use Rattle.rows.proofs.Costs.{unlike}
-use Rattle.rows.proofs.IntSums.{int_sum_by-more}
+use Rattle.rows.proofs.IntSums.{int_sum_by-more, int_sum_by-map, int_sum_by-filter, int_sum_by-same}
+use Rattle.rows.proofs.CutActivity.{bit, count_bits}
 use Rattle.rows.proofs.ForcedTurns.{cut_coef_at}
 use Rattle.rows.proofs.WhatIsForced.{Rising, rising_from, coef_head, coef_tail}
 use Rattle.rows.proofs.ClosingLoops.{Climbs, climbs_members, low_members}
@@ -82,6 +85,57 @@ module _ (cube : CubeParts) (residue : ℕ → ℕ) (xs : List Term) (i : ℕ) (
 
 pub times_all : (cube : CubeParts) (residue : ℕ → ℕ) (row : RowParts) (xs : List Term) (i : ℕ) (times : ℕ) → xs ≡ row.terms → length xs ≤ i → times ≡ fold min (10 ^ 12) (filter_map (quotient_at cube residue) (take i xs)) → times ≡ times_of cube residue row
 times_all cube residue row xs i times same far so_far = so_far ∙ ap (λ l. fold min (10 ^ 12) (filter_map (quotient_at cube residue) l)) (take_all i xs far ∙ same)
+
+-- what the variables at 1 add up to
+abbrev pub at_ones : Set → Term → ℤ
+at_ones ones t = if has ones t.var.0 then t.coef else pos 0
+
+sized_if : (b : Bool) (a : ℤ) → unsigned_abs a ≤ 10 ^ 16 → unsigned_abs (if b then a else pos 0) ≤ 10 ^ 16
+sized_if true a h = h
+sized_if false a h = omega arith
+
+module _ (ones : Set) (xs : List Term) (i : ℕ) (r : ℤ) (sized : All (λ t. IsSized t.coef) xs) (here : i < length xs) where
+  pub one_is : (one : Bool) → one ≡ has ones (get_or xs i blank).var.0 → r ≡ (if one then to_z w128 (of_z w128 (get_or xs i blank).coef) else pos 0) → r ≡ at_ones ones (get_or xs i blank)
+  one_is one is e = e ∙ ap (λ z. if one then z else pos 0) (plain (get_or xs i blank).coef (sized i blank here)) ∙ ap (λ b. if b then (get_or xs i blank).coef else pos 0) is
+
+  pub one_small : r ≡ at_ones ones (get_or xs i blank) → unsigned_abs r ≤ 10 ^ 16
+  one_small e = rw e (sized_if (has ones (get_or xs i blank).var.0) (get_or xs i blank).coef (sized i blank here))
+
+-- those of a cut, counted by sets
+both_bits : (p m o : Bool) → (p ≡ true → m ≡ false) → (if o then (if p then pos 1 else (if m then negsuc 0 else pos 0)) else pos 0) ≡ bit (p && o) -ℤ bit (m && o)
+both_bits true true o apart = absurd (let e : true ≡ false = apart refl in cc)
+both_bits true false true apart = refl
+both_bits true false false apart = refl
+both_bits false true true apart = refl
+both_bits false true false apart = refl
+both_bits false false true apart = refl
+both_bits false false false apart = refl
+
+neither : (p m o : Bool) → (p || m) ≡ false → (if o then (if p then pos 1 else (if m then negsuc 0 else pos 0)) else pos 0) ≡ pos 0
+neither true m o h = absurd (let e : true ≡ false = h in cc)
+neither false true o h = absurd (let e : true ≡ false = h in cc)
+neither false false true h = refl
+neither false false false h = refl
+
+pub cut_ones : (cut : CutParts) (ones : Set) → IsCut cut → value_of (row_of_cut cut).terms (has ones) ≡ pos (len (intersection cut.plus ones)) -ℤ pos (len (intersection cut.minus ones))
+unfolding members_below
+cut_ones cut ones ok =
+    let add : ℕ → ℤ = λ v. if has ones v then cut_coef cut v else pos 0 in
+    let plus : Set = intersection cut.plus ones in
+    let less : Set = intersection cut.minus ones in
+    let both : Set = union cut.plus cut.minus in
+    let each : (v : ℕ) → add v ≡ bit (has plus v) -ℤ bit (has less v) =
+    λ v. both_bits (has cut.plus v) (has cut.minus v) (has ones v) (ok.apart v)
+    ∙ ap (λ b. bit b -ℤ bit (has cut.minus v && has ones v)) (sym (has-intersection cut.plus ones v)) ∙ ap (λ b. bit (has plus v) -ℤ bit b) (sym (has-intersection cut.minus ones v)) in
+    let none : (v : ℕ) → has both v ≡ false → add v ≡ pos 0 = λ v h. neither (has cut.plus v) (has cut.minus v) (has ones v) (sym (has-union cut.plus cut.minus v) ∙ h) in
+    let plus_small : (v : ℕ) → has plus v ≡ true → v < MEMBERS = λ v h. ok.small_plus v (and_left (has cut.plus v) (has ones v) (sym (has-intersection cut.plus ones v) ∙ h)) in
+    let less_small : (v : ℕ) → has less v ≡ true → v < MEMBERS = λ v h. ok.small_minus v (and_left (has cut.minus v) (has ones v) (sym (has-intersection cut.minus ones v) ∙ h)) in
+    int_sum_by-map (at_ones ones) (λ v. term v (cut_coef cut v)) (members_below both MEMBERS)
+    ∙ int_sum_by-filter add (has both) none (range_with_len 0 MEMBERS)
+    ∙ int_sum_by-same add (λ v. bit (has plus v) -ℤ bit (has less v)) each (range_with_len 0 MEMBERS)
+    ∙ count_bits (has plus) (has less) (range_with_len 0 MEMBERS)
+    ∙ ap (λ n. pos n -ℤ pos (length (members_below less MEMBERS))) (sym (len-members plus MEMBERS plus_small))
+    ∙ ap (λ n. pos (len plus) -ℤ pos n) (sym (len-members less MEMBERS less_small))
 
 -- the quotients of a cut are the residues of its free variables with coefficient 1
 by_kind : (plus minus' fixed : Bool) (r : ℕ) (l : List ℕ) (cut : ℤ) → cut ≡ (if plus then pos 1 else (if minus' then negsuc 0 else pos 0)) → cond (plus || minus') (cons_option (quotient_by fixed cut r) l) l ≡ cond (plus && not fixed) (r ∷ l) l

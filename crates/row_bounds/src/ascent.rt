@@ -7,15 +7,15 @@ ghost use Rattle.rows.specs.Known.{parts_of, known_cuts, IsKnown};
 ghost use Rattle.rows.specs.declared.known.RowRef.TheVariants as names;
 ghost use Rattle.rows.specs.BaseRows.{member_cost_of};
 ghost use Rattle.rows.specs.Ascent as formal;
-ghost use Rattle.row_bounds.specs.Inner.Climb.{Follows, IsRising, IsPrepared, base_named, cuts_named};
+ghost use Rattle.row_bounds.specs.Inner.Climb.{Follows, IsRising, base_named, cuts_named};
 
 use crate::shortlist::Shortlist;
 use crate::spending::{
-    free_of_cut, helpers_of_row, spend_cut, spend_row, times_of_cut, times_of_row,
+    base_row, free_of_cut, is_cut_wanting, look_at_row, spend_cut, spend_row, times_of_cut,
 };
 use arch_model::limits::MEMBERS;
 use arch_model::{Library, Memory, VarId};
-use rows::{Cube, Known, Pair, RowRef, member_cost, refuted, variable_count};
+use rows::{Cube, Known, Pair, RowRef, member_cost, variable_count};
 use std::alloc::Global;
 
 // The greatest number of pairs of a reason.
@@ -50,31 +50,9 @@ fn costs(lib: &Library) -> [u128; MEMBERS]
     costs
 }
 
-// A cube in which what is free is at 0.
-fn with_zeros(known: &Known, cube: &Cube) -> Cube
-    requires { IsKnown (parts_of known.now) }
-    ensures { IsPrepared (parts_of known.now) cube.now result }
-{
-    let mut zeros = *cube;
-    for i in 0..variable_count(known.problem.library()) {
-        if zeros.value(VarId(i)).is_none() {
-            zeros.fix(VarId(i), false);
-        }
-    }
-    zeros
-}
-
 // Looks at a base row. Where the variables that are fixed to 1 don't meet it by themselves, it is
 // noted, and added as often as it may be while there is room for a pair.
-fn look_at_base(
-    known: &Known,
-    i: u32,
-    cube: &Cube,
-    zeros: &Cube,
-    list: &mut Shortlist,
-    rising: &mut Rising,
-)
-    requires prepared { IsPrepared (parts_of known.now) cube.now zeros.now }
+fn look_at_base(known: &Known, i: u32, cube: &Cube, list: &mut Shortlist, rising: &mut Rising)
     requires short { i < length known.now.problem.now.base }
     requires rising { IsRising (parts_of known.now) rising.old.pairs.items rising.old.residue }
     requires room { vec_capacity rising.old.pairs ≡ 64 }
@@ -85,33 +63,28 @@ fn look_at_base(
         (λ row. Follows rising.new.pairs.items rising.new.residue
         (formal.looked_at cube.now a (names.Base i, row))) }
 {
-    let name = RowRef::Base(i);
-    if !refuted(known, name, zeros) {
+    let row = base_row(known.problem, i);
+    let look = look_at_row(row, cube, &rising.residue);
+    if !look.wanting {
         return;
     }
-    let row = &known.problem.base()[i as usize];
-    list.note(name, helpers_of_row(row, cube));
+    list.note(RowRef::Base(i), look.helpers);
+    if look.times == 0 {
+        return;
+    }
     if rising.is_full() {
         return;
     }
-    let times = times_of_row(row, cube, &rising.residue);
-    if times == 0 {
-        return;
-    }
-    spend_row(&mut rising.residue, row, times);
-    rising.pairs.push_reserved(Pair { row: name, times });
+    spend_row(&mut rising.residue, row, look.times);
+    rising.pairs.push_reserved(Pair {
+        row: RowRef::Base(i),
+        times: look.times,
+    });
 }
 
 // The same for a cut.
-fn look_at_cut(
-    known: &Known,
-    j: u32,
-    cube: &Cube,
-    zeros: &Cube,
-    list: &mut Shortlist,
-    rising: &mut Rising,
-)
-    requires prepared { IsPrepared (parts_of known.now) cube.now zeros.now }
+fn look_at_cut(known: &Known, j: u32, cube: &Cube, list: &mut Shortlist, rising: &mut Rising)
+    requires known { IsKnown (parts_of known.now) }
     requires short { j < known.now.upto }
     requires rising { IsRising (parts_of known.now) rising.old.pairs.items rising.old.residue }
     requires room { vec_capacity rising.old.pairs ≡ 64 }
@@ -122,12 +95,11 @@ fn look_at_cut(
         (λ cut. Follows rising.new.pairs.items rising.new.residue
         (formal.looked_at cube.now a (names.Cut j, row_of_cut cut))) }
 {
-    let name = RowRef::Cut(j);
-    if !refuted(known, name, zeros) {
+    let cut = known.cuts.get(j);
+    if !is_cut_wanting(&cut, cube) {
         return;
     }
-    let cut = known.cuts.get(j);
-    list.note(name, free_of_cut(&cut, cube).len() as usize);
+    list.note(RowRef::Cut(j), free_of_cut(&cut, cube).len() as usize);
     if rising.is_full() {
         return;
     }
@@ -136,12 +108,14 @@ fn look_at_cut(
         return;
     }
     spend_cut(&mut rising.residue, &cut, times);
-    rising.pairs.push_reserved(Pair { row: name, times });
+    rising.pairs.push_reserved(Pair {
+        row: RowRef::Cut(j),
+        times,
+    });
 }
 
 // Looks at all base rows, by number.
-fn climb_base(known: &Known, cube: &Cube, zeros: &Cube, list: &mut Shortlist, rising: &mut Rising)
-    requires prepared { IsPrepared (parts_of known.now) cube.now zeros.now }
+fn climb_base(known: &Known, cube: &Cube, list: &mut Shortlist, rising: &mut Rising)
     requires rising { IsRising (parts_of known.now) rising.old.pairs.items rising.old.residue }
     requires room { vec_capacity rising.old.pairs ≡ 64 }
     ensures rising { IsRising (parts_of known.now) rising.new.pairs.items rising.new.residue }
@@ -151,13 +125,13 @@ fn climb_base(known: &Known, cube: &Cube, zeros: &Cube, list: &mut Shortlist, ri
         (fold (formal.looked_at cube.now) a (base_named (parts_of known.now))) }
 {
     for i in 0..known.problem.base().len() as u32 {
-        look_at_base(known, i, cube, zeros, list, rising);
+        look_at_base(known, i, cube, list, rising);
     }
 }
 
 // Looks at all cuts that are known, by number.
-fn climb_cuts(known: &Known, cube: &Cube, zeros: &Cube, list: &mut Shortlist, rising: &mut Rising)
-    requires prepared { IsPrepared (parts_of known.now) cube.now zeros.now }
+fn climb_cuts(known: &Known, cube: &Cube, list: &mut Shortlist, rising: &mut Rising)
+    requires known { IsKnown (parts_of known.now) }
     requires rising { IsRising (parts_of known.now) rising.old.pairs.items rising.old.residue }
     requires room { vec_capacity rising.old.pairs ≡ 64 }
     ensures rising { IsRising (parts_of known.now) rising.new.pairs.items rising.new.residue }
@@ -167,7 +141,7 @@ fn climb_cuts(known: &Known, cube: &Cube, zeros: &Cube, list: &mut Shortlist, ri
         (fold (formal.looked_at cube.now) a (cuts_named (parts_of known.now))) }
 {
     for j in 0..known.upto {
-        look_at_cut(known, j, cube, zeros, list, rising);
+        look_at_cut(known, j, cube, list, rising);
     }
 }
 
@@ -200,9 +174,8 @@ pub(crate) fn climb(
     ensures follows { IfOk result
         (λ r. Follows r.pairs.items r.residue (formal.whole_ascent (parts_of known.now) cube.now)) }
 {
-    let zeros = with_zeros(known, cube);
     let mut rising = begin(alloc, known)?;
-    climb_base(known, cube, &zeros, list, &mut rising);
-    climb_cuts(known, cube, &zeros, list, &mut rising);
+    climb_base(known, cube, list, &mut rising);
+    climb_cuts(known, cube, list, &mut rising);
     Ok(rising)
 }

@@ -13,7 +13,7 @@ ghost use Rattle.row_bounds.specs.Inner.Climb.{IsRising};
 use crate::ascent::{PAIRS, Rising};
 use crate::shortlist::{MANY, Shortlist};
 use crate::spending::{
-    MOST, base_row, free_of_cut, spend_cut, spend_row, times_of_cut, times_of_row,
+    MOST, base_row, free_of_cut, look_at_row, spend_cut, spend_row, times_of_cut,
 };
 use arch_model::limits::MEMBERS;
 use arch_model::{CompId, Edge, Library, MemberSet, Memory, VarId};
@@ -224,7 +224,7 @@ fn raise_base(known: &Known, i: u32, cube: &Cube, rising: &mut Rising)
     for term in row.terms() {
         supply_term(known, *term, most, cube, rising);
     }
-    let times = times_of_row(row, cube, &rising.residue);
+    let times = look_at_row(row, cube, &rising.residue).times;
     add_base(known, i, times, rising);
 }
 

@@ -1,10 +1,11 @@
 // What a row takes of the residues: how often it may be added, and what it leaves then.
-ghost use Rattle.std.specs.Prelude.{◌≡◌, ℕ, ◌+◌, ◌*◌, ◌-◌, ◌≤◌, ◌<◌, ◌^◌, if◌then◌else◌};
+ghost use Rattle.std.specs.Prelude.{◌≡◌, ℕ, pos, ◌+◌, ◌*◌, ◌-◌, ◌≤◌, ◌<◌, ◌^◌, if◌then◌else◌};
 ghost use Rattle.std.specs.Prelude.{slice_index, slice_get, length, Some};
 ghost use Rattle.arch_model.specs.Set.{has, minus};
 ghost use Rattle.rows.specs.Row.{IsSized, IsRowBelow, coef_at, cut_coef, row_of_cut};
+ghost use Rattle.rows.specs.Cut.{IsCut};
 ghost use Rattle.rows.specs.Ascent.{times_of, left_of};
-ghost use Rattle.row_bounds.specs.Inner.Climb.{quotient_by};
+ghost use Rattle.row_bounds.specs.Inner.Climb.{quotient_by, is_wanting};
 
 use arch_model::limits::MEMBERS;
 use arch_model::{Library, MemberSet, VarId};
@@ -52,18 +53,6 @@ fn left(residue: u128, coef: i128, times: u64) -> u128
     }
 }
 
-// How many free variables of a row would help to meet it.
-pub(crate) fn helpers_of_row(row: &Row, cube: &Cube) -> usize {
-    let fixed = cube.fixed();
-    let mut helpers = 0;
-    for term in row.terms() {
-        if term.coef > 0 && !fixed.has(term.var) {
-            helpers += 1;
-        }
-    }
-    helpers
-}
-
 // The free variables of a cut that would help to meet it.
 pub(crate) fn free_of_cut(cut: &CutRow, cube: &Cube) -> MemberSet
     ensures { result ≡ minus cut.now.plus cube.now.fixed }
@@ -71,24 +60,63 @@ pub(crate) fn free_of_cut(cut: &CutRow, cube: &Cube) -> MemberSet
     cut.plus().minus(&cube.fixed())
 }
 
-// How often a row may be added.
-pub(crate) fn times_of_row(row: &Row, cube: &Cube, residue: &[u128; MEMBERS]) -> u64
-    requires { IsRowBelow MEMBERS row.now }
-    ensures value { result ≡ times_of cube.now (slice_index residue.now) row.now }
-    ensures few { result ≤ 10 ^ 12 }
-{
-    let fixed = cube.fixed();
-    let mut times = MOST;
-    for term in row.terms() {
-        let most = residue[term.var.0 as usize];
-        if let Some(most) = quotient(fixed.has(term.var), term.coef, most) {
-            times = times.min(most);
-        }
-    }
-    times as u64
+// What the ascent asks of a row.
+#[derive(Clone, Copy)]
+pub(crate) struct Look {
+    // the variables at 1 don't meet it by themselves
+    pub(crate) wanting: bool,
+    // how many free variables would help to meet it
+    pub(crate) helpers: usize,
+    // how often it may be added
+    pub(crate) times: u64,
 }
 
-// The same for a cut.
+// What a variable that is at 1, or isn't, adds to a sum.
+fn at_one(one: bool, coef: i128) -> i128
+    ensures { result ≡ (if one then coef else pos 0) }
+{
+    if one { coef } else { 0 }
+}
+
+// All that the ascent asks of a row, in one pass over its terms.
+pub(crate) fn look_at_row(row: &Row, cube: &Cube, residue: &[u128; MEMBERS]) -> Look
+    requires { IsRowBelow MEMBERS row.now }
+    ensures wanting { result.wanting ≡ is_wanting cube.now row.now }
+    ensures times { result.times ≡ times_of cube.now (slice_index residue.now) row.now }
+    ensures few { result.times ≤ 10 ^ 12 }
+{
+    let fixed = cube.fixed();
+    let ones = cube.ones();
+    let mut total: i128 = 0;
+    let mut helpers = 0;
+    let mut times = MOST;
+    for term in row.terms() {
+        total += at_one(ones.has(term.var), term.coef);
+        let left = residue[term.var.0 as usize];
+        if let Some(most) = quotient(fixed.has(term.var), term.coef, left) {
+            times = times.min(most);
+            helpers += 1;
+        }
+    }
+    Look {
+        wanting: total < row.least(),
+        helpers,
+        times: times as u64,
+    }
+}
+
+// Whether the variables at 1 don't meet a cut by themselves.
+pub(crate) fn is_cut_wanting(cut: &CutRow, cube: &Cube) -> bool
+    ensures wanting { result ≡ is_wanting cube.now (row_of_cut cut.now) }
+    ensures cut { IsCut cut.now }
+{
+    let ones = cube.ones();
+    let plus = cut.plus().intersection(&ones).len();
+    let minus = cut.minus().intersection(&ones).len();
+    (plus as i128 - minus as i128) < cut.least()
+}
+
+// How often a cut may be added.
 pub(crate) fn times_of_cut(cut: &CutRow, cube: &Cube, residue: &[u128; MEMBERS]) -> u64
     ensures value { result ≡ times_of cube.now (slice_index residue.now) (row_of_cut cut.now) }
     ensures few { result ≤ 10 ^ 12 }

@@ -1,16 +1,15 @@
 -- An ascent on its way, as the code has it.
-use Rattle.std.specs.Prelude.{◌≡◌, ℕ, zero, suc, ◌+◌, ◌*◌, ◌/◌, ◌^◌, ◌≤◌, ◌<◌, ℤ, pos, negsuc, Bool, List, Option, Some, None, IsSome, length, slice_index, map, if◌then◌else◌}
+use Rattle.std.specs.Prelude.{◌≡◌, ℕ, zero, suc, ◌+◌, ◌*◌, ◌/◌, ◌^◌, ◌≤◌, ◌<◌, ℤ, pos, negsuc, int_lt, Bool, List, Option, Some, None, IsSome, length, slice_index, map, if◌then◌else◌}
 use Rattle.std.specs.List.{enumerate_from}
 use Rattle.arch_model.specs.declared.limits.TheConstants.{MEMBERS}
 use Rattle.rows.specs.declared.known.Pair.{Pair}
 use Rattle.rows.specs.declared.known.RowRef.{RowRef}
 use Rattle.rows.specs.declared.known.RowRef.TheVariants.{Base, Cut}
 use Rattle.rows.specs.Parts.{RowParts, CubeParts, KnownParts}
-use Rattle.rows.specs.Row.{row_of_cut}
-use Rattle.rows.specs.Cube.{IsFull}
+use Rattle.arch_model.specs.Set.{has}
+use Rattle.rows.specs.Row.{row_of_cut, value_of}
 use Rattle.rows.specs.Reason.{IsReason, AllThere}
-use Rattle.rows.specs.Problem.{IsProblem}
-use Rattle.rows.specs.Known.{variables, known_cuts, IsKnown}
+use Rattle.rows.specs.Known.{known_cuts}
 use Rattle.rows.specs.Ascent.{Ascent}
 
 -- pairs and residues as the code has them are those of an ascent
@@ -34,13 +33,9 @@ pub record IsRising (known : KnownParts) (pairs : List Pair) (residues : List �
   pub there : IsSome known.bound → AllThere known pairs
   pub low : AreLow (length pairs) residues
 
--- a cube and the same with what is free at 0, over a problem's variables
-pub record IsPrepared (known : KnownParts) (cube zeros : CubeParts) : Type 0 where
-  pub problem : IsProblem known.problem
-  pub is_known : IsKnown known
-  pub few : variables known ≤ MEMBERS
-  pub full : IsFull (variables known) zeros
-  pub ones : zeros.ones ≡ cube.ones
+-- whether the variables that are fixed to 1 don't meet a row by themselves
+abbrev pub is_wanting : CubeParts → RowParts → Bool
+is_wanting cube row = int_lt (value_of row.terms (has cube.ones)) row.least
 
 -- the base rows with their names, by number
 abbrev pub base_named : KnownParts → List (RowRef × RowParts)

@@ -7,7 +7,7 @@ use Rattle.row_bounds.proofs.ascent.climb_cuts.Goals as goal
 pub loop-j-preserved : goal.loop-j-preserved
 loop-j-preserved c =
     let known = parts_of c.args.known.now in
-    let short : c.loop-j.j < length (known_cuts known) = omega (arith, length-take known.upto known.cuts, c.requires.prepared.is_known.upto) in
+    let short : c.loop-j.j < length (known_cuts known) = omega (arith, length-take known.upto known.cuts, c.requires.known.upto) in
     record {
       rising = c.look_at_cut.ensures.rising;
       room = c.look_at_cut.ensures.room;
@@ -19,5 +19,5 @@ loop-j-preserved c =
 pub returns-clause-follows : goal.returns-clause-follows
 returns-clause-follows c =
     let known = parts_of c.args.known.now in
-    let far : length (known_cuts known) ≤ c.loop-j.j = omega (arith, length-take known.upto known.cuts, c.requires.prepared.is_known.upto) in
+    let far : length (known_cuts known) ≤ c.loop-j.j = omega (arith, length-take known.upto known.cuts, c.requires.known.upto) in
     cuts_end known c.args.cube.now c.args.rising.now.pairs.items c.args.rising.now.residue c.loop-j.rising.pairs.items c.loop-j.rising.residue c.loop-j.j far c.loop-j.invariant.climbs
