@@ -135,24 +135,60 @@ fn library(
     Ok(Library::new(types, links, template, patterns, requirements))
 }
 
-#[test]
-fn a_name_is_its_types_name_a_dot_and_an_index_from_1(rt: HostRuntime) -> Result<(), Fail> {
+// Two of gen and twelve of bus, each linked to each.
+fn two_types(rt: &(impl Abort + AllocGlobal)) -> Result<Library, Fail> {
     let types = Vec::from_array(rt.alloc(), [row("gen", 2), row("bus", 12)])?;
     let links = Vec::from_array(rt.alloc(), [link(0, 1)])?;
-    let lib = library(&rt, types, links)?;
-    assert!(rt; lib.components().len() > 13);
-    assert_eq!(rt; name_of(rt.alloc(), &lib, CompId(0))?.as_str(), "gen.1");
-    assert_eq!(rt; instance_name(rt.alloc(), "gen", 1)?.as_str(), "gen.1");
-    assert_eq!(rt; index_in("bus.65", "bus"), Some(65));
-    let mut line = String::from_str(rt.alloc(), "component ")?;
-    push_name(&mut line, &lib, CompId(13))?;
-    assert_eq!(rt; line.as_str(), "component bus.12");
-    assert_eq!(rt; find_component(&lib, "bus.12"), Some(CompId(13)));
-    for name in [
-        "gen.0", "gen.3", "gen", "gen.", "gen.01", "gen.+1", "bus.012", "bus.1.", "us.1",
-    ] {
-        assert_eq!(rt; find_component(&lib, name), None, "{name}");
+    library(rt, types, links)
+}
+
+// That a component has a name, alone and in a line.
+fn expect_name(
+    rt: &(impl Abort + AllocGlobal),
+    lib: &Library,
+    c: CompId,
+    name: &str,
+) -> Result<(), Fail> {
+    assert!(rt; (c.0 as usize) < lib.components().len());
+    assert_eq!(rt; name_of(rt.alloc(), lib, c)?.as_str(), name);
+    let mut line = String::from_str(rt.alloc(), "")?;
+    push_name(&mut line, lib, c)?;
+    assert_eq!(rt; line.as_str(), name);
+    Ok(())
+}
+
+#[test]
+fn a_name_is_its_types_name_a_dot_and_an_index_from_1(rt: HostRuntime) -> Result<(), Fail> {
+    let lib = two_types(&rt)?;
+    expect_name(&rt, &lib, CompId(0), "gen.1")?;
+    expect_name(&rt, &lib, CompId(13), "bus.12")
+}
+
+#[test]
+fn a_component_is_found_by_its_name(rt: HostRuntime) -> Result<(), Fail> {
+    let lib = two_types(&rt)?;
+    let names = [
+        ("bus.12", Some(CompId(13))),
+        ("gen.0", None),
+        ("gen.3", None),
+        ("gen", None),
+        ("gen.", None),
+        ("gen.01", None),
+        ("gen.+1", None),
+        ("bus.012", None),
+        ("bus.1.", None),
+        ("us.1", None),
+    ];
+    for (name, place) in names {
+        assert_eq!(rt; find_component(&lib, name), place, "{name}");
     }
+    Ok(())
+}
+
+#[test]
+fn an_index_may_be_past_the_types_max(rt: HostRuntime) -> Result<(), Fail> {
+    assert_eq!(rt; index_in("bus.65", "bus"), Some(65));
+    assert_eq!(rt; instance_name(rt.alloc(), "gen", 65)?.as_str(), "gen.65");
     Ok(())
 }
 
