@@ -47,3 +47,5 @@ pub use words::{Command, WordFault, read_words};
 
 #[cfg(test)]
 mod tests;
+#[cfg(test)]
+mod tests_of_requirements;
