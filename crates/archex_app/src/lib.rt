@@ -49,3 +49,5 @@ pub use words::{Command, WordFault, read_words};
 mod tests;
 #[cfg(test)]
 mod tests_of_probability;
+#[cfg(test)]
+mod tests_of_requirements;

@@ -19,7 +19,7 @@ fn words_of(alloc: Global, words: &[&str]) -> Result<Vec<String>, AllocError> {
 }
 
 // What a run of some words over a library printed, and its status, with these calls failing.
-fn run_on(
+pub(crate) fn run_on(
     alloc: Global,
     words: &[&str],
     library: &[u8],
@@ -275,7 +275,7 @@ link = [{from = \"a\", to = \"b\"}]",
             b"type = [{name = \"x\", role = \"middle\", cost = 7}]
 pattern = [{kind = \"count\", type = \"x\", min = 1}]
 require = [{sink = \"x.1\", bound = 0}]",
-            b"L3 UnknownKey library 0 require",
+            b"L9 Range require 1 sink",
         ),
         (
             b"type = [{name = \"a\", role = \"source\"}, {name = \"b\", role = \"sink\", colour = 1}]
