@@ -1,8 +1,8 @@
 -- What closing a cube and its bounds leave of it.
-use Rattle.std.proofs.Common.{◌≡◌, ℕ, ◌+◌, ◌<◌, Bool, true, nat_lt, List, length, subst, arith}
-use Rattle.std.specs.Prelude.{IfSome, IsTrue}
+use Rattle.std.proofs.Common.{◌≡◌, ℕ, ◌+◌, ◌<◌, Bool, true, false, nat_lt, List, length, subst, arith}
+use Rattle.std.specs.Prelude.{IfSome, IfNone, IsTrue}
 use Rattle.std.proofs.lemmas.Bool.{lt-ltb, ltb-true}
-use Rattle.arch_model.specs.Set.{has, len}
+use Rattle.arch_model.specs.Set.{Set, has, len}
 use Rattle.arch_model.proofs.Members.{same_test}
 use Rattle.rows.specs.declared.known.RowRef.{RowRef}
 use Rattle.rows.specs.declared.known.Pair.{Pair}
@@ -10,13 +10,14 @@ use Rattle.rows.specs.Parts.{CubeParts, KnownParts}
 use Rattle.rows.specs.Cube.{is_free, FixesBelow, IsCubeBelow, IsFull, LiesIn}
 use Rattle.rows.specs.Known.{variables, IsKnown}
 use Rattle.rows.specs.Problem.{IsProblem}
+use Rattle.rows.specs.Ascent.{is_ascent_refuted}
 use Rattle.rows.specs.Reason.{AllThere, is_together}
 use Rattle.rows.proofs.TraceLaws.{trace_counts}
 use Rattle.propagate.specs.declared.closed.Closed.{Closed}
 use Rattle.propagate.specs.declared.closed.Closed.TheVariants.{Quiet, Full}
 use Rattle.propagate.specs.Closed.{MeetsKnown, Closes}
 use Rattle.row_bounds.specs.declared.bounded.Bounded.{Bounded}
-use Rattle.row_bounds.specs.declared.bounded.Bounded.TheVariants.{Refuted}
+use Rattle.row_bounds.specs.declared.bounded.Bounded.TheVariants.{Refuted, Open}
 use Rattle.row_bounds.specs.Bounded.{reason_in}
 use Rattle.archex_app.specs.Inner.Narrowing.{IsLeftFull, IsLeftOpen}
 use Rattle.archex_app.proofs.Combining.{refuted_together}
@@ -37,11 +38,13 @@ module _ (known : KnownParts) (cube inner : CubeParts) (trace : List RowRef) (cl
   pub quiet_left : IsFull (variables known) inner → IsLeftFull known cube inner
   quiet_left full = record { fixed = fixes_all (variables known) inner closes.below full; quiet = closes.answer.0; kept = closes.kept }
 
-  pub open_left : (v : ℕ) → v < variables known → is_free inner v ≡ true → IsLeftOpen known cube inner v
-  open_left v short free = record {
+  pub open_left : (bounded : Bounded) (spent : Set) (v : ℕ) → bounded ≡ Open spent → IfNone (reason_in bounded) (is_ascent_refuted known inner ≡ false) → v < variables known → is_free inner v ≡ true → IsLeftOpen known cube inner v
+  open_left bounded spent v is_open open_yet short free = record {
     below = closes.below;
     variable = short;
     free = free;
+    quiet = closes.answer.0;
+    open_yet = let Yet : Bounded → Type 0 = λ b. IfNone (reason_in b) (is_ascent_refuted known inner ≡ false) in subst Yet is_open open_yet;
     kept = closes.kept;
     no_less = let counted : len inner.fixed ≡ len cube.fixed + length trace = trace_counts known (variables known) trace cube inner closes.below closes.trace in omega (arith, counted);
   }

@@ -17,7 +17,8 @@ pub enum Left {
     Nothing,
     /// At most the vector of this cube, in which nothing is free.
     One(Cube),
-    /// What is left lies in this cube, and the variable, which is free there, is to be branched on.
+    /// What is left lies in this quiet cube, whose ascent isn't refuted, and the variable, which is
+    /// free there, is to be branched on.
     Open(Cube, VarId),
 }
 
@@ -37,8 +38,9 @@ pub fn narrowed(alloc: Global, known: &Known, cube: Cube) -> Result<Left, Memory
             let ascent = ascend(alloc, known, &cube)?;
             match ascent.settle(alloc, known, &cube)? {
                 Bounded::Refuted(_reason) => Ok(Left::Nothing),
-                Bounded::Open(left) => match branching_variable(known, &cube, &left) {
+                Bounded::Open(spent) => match branching_variable(known, &cube, &spent) {
                     Some(variable) => Ok(Left::Open(cube, variable)),
+                    // something is free in the cube, but `One` is as true where nothing is
                     None => Ok(Left::One(cube)),
                 },
             }

@@ -1,9 +1,10 @@
 -- For the code's own contracts: what is left of a cube once the rows that are known have been asked.
-use Rattle.std.specs.Prelude.{◌≡◌, ℕ, ◌≤◌, ◌<◌, Bool, true}
+use Rattle.std.specs.Prelude.{◌≡◌, ℕ, ◌≤◌, ◌<◌, Bool, true, false}
 use Rattle.arch_model.specs.Set.{len}
 use Rattle.rows.specs.Parts.{CubeParts, KnownParts}
 use Rattle.rows.specs.Cube.{is_free, FixesBelow, IsCubeBelow, LiesIn}
 use Rattle.rows.specs.Known.{variables, IsQuiet}
+use Rattle.rows.specs.Ascent.{is_ascent_refuted}
 use Rattle.propagate.specs.Closed.{MeetsKnown}
 use Rattle.archex_app.specs.declared.narrowing.Left.{Left}
 use Rattle.archex_app.specs.declared.narrowing.Left.TheVariants.{Nothing, One, Open}
@@ -18,11 +19,13 @@ pub record IsLeftFull (known : KnownParts) (cube inner : CubeParts) : Type 0 whe
   pub quiet : IsQuiet known inner
   pub kept : KeepsKnown known cube inner
 
--- a cube in which a variable is free is left, and fixes no less
+-- a quiet cube whose ascent isn't refuted is left, in which a variable is free, and fixes no less
 pub record IsLeftOpen (known : KnownParts) (cube inner : CubeParts) (v : ℕ) : Type 0 where
   pub below : IsCubeBelow (variables known) inner
   pub variable : v < variables known
   pub free : is_free inner v ≡ true
+  pub quiet : IsQuiet known inner
+  pub open_yet : is_ascent_refuted known inner ≡ false
   pub kept : KeepsKnown known cube inner
   pub no_less : len cube.fixed ≤ len inner.fixed
 

@@ -12,7 +12,7 @@ returns-in-Refuted-2 c =
 
 pub returns-in-Some : goal.returns-in-Some
 returns-in-Some c =
-    open_left (parts_of c.args.known.now) c.args.cube c.in-Quiet.cube c.in-Quiet.trace c.in_ok-close.field-0 c.in-Quiet.is c.in_ok-close.ensures c.in-Some.variable.0 c.in-Some.ensures.variable c.in-Some.ensures.free
+    open_left (parts_of c.args.known.now) c.args.cube c.in-Quiet.cube c.in-Quiet.trace c.in_ok-close.field-0 c.in-Quiet.is c.in_ok-close.ensures c.in_ok-_reason-in-Quiet.field-0 c.in-Open.spent c.in-Some.variable.0 c.in-Open.is c.in_ok-_reason-in-Quiet.ensures.open_yet c.in-Some.ensures.variable c.in-Some.ensures.free
 
 pub returns : goal.returns
 returns c = quiet_left (parts_of c.args.known.now) c.args.cube c.in-Quiet.cube c.in-Quiet.trace c.in_ok-close.field-0 c.in-Quiet.is c.in_ok-close.ensures c.in-None.ensures.none
