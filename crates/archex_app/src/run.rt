@@ -57,9 +57,9 @@ fn run_command<F: Shelf, O: Sink>(
 }
 
 /// Does what the words ask, with one worker: `solve LIB` reads the library LIB from the shelf,
-/// searches for an architecture of least cost among all that meet its patterns, and prints a report
-/// to the sink. `probability LIB ARCH SINK` reads a library and an architecture of it, and prints two
-/// bounds of the failure mass of a sink.
+/// searches for an architecture of least cost among all that meet its patterns and keep its bounds
+/// on weights, and prints a report to the sink. `probability LIB ARCH SINK` reads a library and an
+/// architecture of it, and prints two bounds of the failure mass of a sink.
 ///
 /// It returns for all arguments; want of memory alone is free to come anywhere, but for words that
 /// are refused, which take none.
@@ -99,15 +99,19 @@ pub fn run_plain<F: Shelf, O: Sink>(
     // What each status of `probability` says of the bytes of LIB and ARCH, of SINK and of what was
     // printed.
     ensures mass { (lib arch sink : List ℕ) → AskForMass (texts words.now) lib arch sink → result ≡ status_of done
-        → PrintsOver (ShowsMass sink) (F.told shelf.old lib) (F.told shelf.old arch) (O.told out.old) (O.told out.new) }
+        → PrintsOver (ShowsMass sink) (F.told shelf.old lib) (F.told shelf.old arch)
+        (O.told out.old) (O.told out.new) }
     ensures mass_refused_library { (lib arch sink : List ℕ) → AskForMass (texts words.now) lib arch sink
-        → result ≡ status_of library_refused → Prints ShowsRefusal (F.told shelf.old lib) (O.told out.old) (O.told out.new) }
+        → result ≡ status_of library_refused
+        → Prints ShowsRefusal (F.told shelf.old lib) (O.told out.old) (O.told out.new) }
     ensures refused_architecture { (lib arch sink : List ℕ) → AskForMass (texts words.now) lib arch sink
         → result ≡ status_of architecture_refused
-        → PrintsOver RefusesArchitecture (F.told shelf.old lib) (F.told shelf.old arch) (O.told out.old) (O.told out.new) }
+        → PrintsOver RefusesArchitecture (F.told shelf.old lib) (F.told shelf.old arch)
+        (O.told out.old) (O.told out.new) }
     ensures refused_sink { (lib arch sink : List ℕ) → AskForMass (texts words.now) lib arch sink
         → result ≡ status_of words_refused
-        → PrintsOver (RefusesSink sink) (F.told shelf.old lib) (F.told shelf.old arch) (O.told out.old) (O.told out.new) }
+        → PrintsOver (RefusesSink sink) (F.told shelf.old lib) (F.told shelf.old arch)
+        (O.told out.old) (O.told out.new) }
     ensures mass_complete { (lib arch sink lib_bytes arch_bytes : List ℕ) → AskForMass (texts words.now) lib arch sink
         → F.told shelf.old lib ≡ Some lib_bytes → F.told shelf.old arch ≡ Some arch_bytes
         → ¬ Rose (F.read_faults shelf.old lib) (F.read_faults shelf.new lib)

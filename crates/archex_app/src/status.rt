@@ -1,4 +1,5 @@
 // How a run ends.
+
 /// How a run ended: the number with which the program ends, 0 to 9. The meaning of each number is
 /// that of `Ending` in `specs/Status.antt`, and those that the program uses have a name here.
 #[derive(Clone, Copy, Debug, PartialEq, Eq)]
@@ -7,7 +8,7 @@ pub struct Status(pub u8);
 impl Status {
     /// The command did what it is for: `solve` printed a cheapest architecture.
     pub const DONE: Status = Status(0);
-    /// No architecture meets the patterns.
+    /// No architecture meets the patterns and keeps the bounds on weights.
     pub const INFEASIBLE: Status = Status(1);
     /// The bytes of the library file aren't a library.
     pub const LIBRARY_REFUSED: Status = Status(3);
