@@ -48,6 +48,10 @@ pub use words::{Command, WordFault, read_words};
 #[cfg(test)]
 mod tests;
 #[cfg(test)]
+mod tests_of_cubes;
+#[cfg(test)]
+mod tests_of_cuts;
+#[cfg(test)]
 mod tests_of_probability;
 #[cfg(test)]
 mod tests_of_requirements;

@@ -7,8 +7,8 @@ ghost use Rattle.archex_app.specs.Report.{weight_line, optimal_text};
 use arch_csv::push_architecture;
 use arch_model::{Architecture, Library, Memory, Requirement};
 use sink_weight::weight;
-use template::push_name;
 use std::alloc::Global;
+use template::push_name;
 
 // Appends the line of one requirement.
 fn push_weight(
