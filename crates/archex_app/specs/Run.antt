@@ -16,6 +16,7 @@ pub record Seen : Type 0 where
   pub printed : Option (List ℕ)
   pub prints : ℕ
 
+-- what is seen, from its parts
 abbrev pub seen : (List ℕ → Option (List ℕ)) → (List ℕ → ℕ) → (List ℕ → ℕ) → Option (List ℕ) → ℕ → Seen
 seen told reads writes printed prints = record { told = told; reads = reads; writes = writes; printed = printed; prints = prints }
 

@@ -7,7 +7,8 @@ use lib_read::LARGEST;
 use outside::{Failed, Shelf};
 use std::alloc::{AllocError, Global};
 
-/// The greatest number of bytes that are read of a library: one more than it may have.
+/// The greatest number of bytes that are read of a library or of an architecture file: one more than
+/// it may have.
 pub const READ_LIMIT: usize = LARGEST + 1;
 
 /// How many bytes are asked for at once.

@@ -30,10 +30,7 @@ pub struct Found {
 fn bound_of(best: &Option<Found>) -> Option<u64>
     ensures { result ≡ option_map (λ found. found.cost) best.now }
 {
-    match best {
-        Some(found) => Some(found.cost),
-        None => None,
-    }
+    best.map(|found| found.cost)
 }
 
 // The better of the best so far and the architecture of a quiet cube in which nothing is free: the

@@ -6,7 +6,8 @@
 pub struct Status(pub u8);
 
 impl Status {
-    /// The command did what it is for: `solve` printed a cheapest architecture.
+    /// The command did what it is for: `solve` printed a cheapest architecture, `probability` two
+    /// bounds of a failure mass.
     pub const DONE: Status = Status(0);
     /// No architecture meets the patterns and keeps the bounds on weights.
     pub const INFEASIBLE: Status = Status(1);

@@ -234,8 +234,8 @@ min = 2";
 }
 
 // A library is refused for its first fault, with its class, table, position (0 for the file) and
-// key: one library for each class that a document without requirements can have; a table that isn't
-// known yet; a class that is judged over the whole file before the next one; and a key of 60
+// key: one library for each class that a document without requirements can have; a table that there
+// isn't; a class that is judged over the whole file before the next one; and a key of 60
 // characters, of which the first 40 are printed, the line feed and the letter outside ASCII as `?`.
 #[test]
 fn the_first_fault_is_printed(rt: HostRuntime) -> Result<(), Fail> {
@@ -320,9 +320,8 @@ fn too_large_a_file_is_refused(rt: HostRuntime) -> Result<(), Fail> {
     Ok(())
 }
 
-// Words other than `solve` and one word that isn't empty are refused, whatever the shelf has: for
-// the command first, then for a missing word, one past the last, then for the first word too many,
-// then for the leftmost bad one.
+// Words that are no command are refused, whatever the shelf has: for the command first, then for a
+// missing word, one past the last, then for the first word too many, then for the leftmost bad one.
 #[test]
 fn other_words_are_refused(rt: HostRuntime) -> Result<(), Fail> {
     let rows: [(&[&str], &[u8]); 7] = [
