@@ -1,5 +1,4 @@
 pub mod Pieces
-pub mod Combining
 pub mod NarrowingLaws
 pub mod SearchLaws
 pub mod WordLaws

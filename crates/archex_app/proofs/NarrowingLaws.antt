@@ -13,6 +13,7 @@ use Rattle.rows.specs.Problem.{IsProblem}
 use Rattle.rows.specs.Ascent.{is_ascent_refuted}
 use Rattle.rows.specs.Reason.{AllThere, is_together}
 use Rattle.rows.proofs.TraceLaws.{trace_counts}
+use Rattle.rows.proofs.RefutedReasons.{refuted_together}
 use Rattle.propagate.specs.declared.closed.Closed.{Closed}
 use Rattle.propagate.specs.declared.closed.Closed.TheVariants.{Quiet, Full}
 use Rattle.propagate.specs.Closed.{MeetsKnown, Closes}
@@ -20,7 +21,6 @@ use Rattle.row_bounds.specs.declared.bounded.Bounded.{Bounded}
 use Rattle.row_bounds.specs.declared.bounded.Bounded.TheVariants.{Refuted, Open}
 use Rattle.row_bounds.specs.Bounded.{reason_in}
 use Rattle.archex_app.specs.Inner.Narrowing.{IsLeftFull, IsLeftOpen}
-use Rattle.archex_app.proofs.Combining.{refuted_together}
 
 -- exactly the program's variables are fixed
 fixes_all : (n : ℕ) (cube : CubeParts) → IsCubeBelow n cube → IsFull n cube → FixesBelow n cube

@@ -10,7 +10,7 @@ use Rattle.rows.specs.declared.row.Term.{Term}
 use Rattle.rows.specs.declared.known.Pair.{Pair}
 use Rattle.rows.specs.Parts.{RowParts, CubeParts, KnownParts}
 use Rattle.rows.specs.Row.{int_sum_by, term, coef_at}
-use Rattle.rows.specs.Reason.{row_of_pair, terms_times, empty_row, AllThere, IsReason, combination_of}
+use Rattle.rows.specs.Reason.{row_of_pair, terms_times, empty_row, AllThere, combination_of}
 use Rattle.rows.specs.Known.{row_at, variables}
 use Rattle.rows.specs.Cube.{value_at}
 use Rattle.rows.specs.declared.activity.End.TheVariants.{Greatest}
@@ -110,9 +110,6 @@ pub pair_turn : (f : RowParts → ℤ) (known : KnownParts) (pairs xs : List Pai
 pair_turn f known pairs xs i r s same there short small is e =
     let all : AllThere known xs = rw same there in
     e ∙ ap (λ z. pos (get_or xs i blank_pair).times *ℤ z) (plain_to r small ∙ of_there (λ row. r ≡ f row) (row_at known (get_or xs i blank_pair).row) (all i blank_pair short) is)
-
-pub few_pairs : (pairs xs : List Pair) → xs ≡ pairs → IsReason pairs → length xs ≤ 64
-few_pairs pairs xs same ok = rw same ok.few
 
 -- the greatest activity of a combination
 pub combined_activity : (known : KnownParts) (pairs : List Pair) (cube : CubeParts) → int_sum_by (combined_best known pairs cube) (range_with_len 0 (variables known)) ≡ greatest_activity (combination_of known pairs) cube

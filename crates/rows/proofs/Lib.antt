@@ -22,3 +22,4 @@ pub mod EdgeRows
 pub mod CubeLaws
 pub mod Chosen
 pub mod VectorLaws
+pub mod RefutedReasons

@@ -1,5 +1,5 @@
 //! Laws of rows, cubes and forcing, each the contract of a function without a body.
-ghost use Rattle.std.specs.Prelude.{◌≡◌, ◌↔◌, ℕ, ◌+◌, ◌<◌, Bool, false, Some, None, List, ◌++◌, length};
+ghost use Rattle.std.specs.Prelude.{◌≡◌, ◌↔◌, ℕ, ◌+◌, ◌<◌, Bool, true, false, Some, None, List, ◌++◌, length};
 ghost use Rattle.std.specs.List.{All};
 ghost use Rattle.arch_model.specs.Set.{has, len};
 ghost use Rattle.arch_model.specs.Parts.{LibraryParts, ArchitectureParts};
@@ -12,8 +12,10 @@ ghost use Rattle.rows.specs.Activity.{IsRefuted, is_refuted, IsUnmet, Forces};
 ghost use Rattle.rows.specs.Activity.{ForcesNothing, least_forced, IsLeastForced};
 ghost use Rattle.rows.specs.BaseRows.{edge_rows, cost_row_of};
 ghost use Rattle.rows.specs.declared.known.RowRef.{RowRef};
+ghost use Rattle.rows.specs.declared.known.Pair.{Pair};
 ghost use Rattle.rows.specs.Known.{row_at, known_rows, variables, IsKnown};
 ghost use Rattle.rows.specs.Problem.{IsProblem, IsVectorOf};
+ghost use Rattle.rows.specs.Reason.{AllThere, is_together};
 ghost use Rattle.rows.specs.Trace.{cube_after};
 
 /// A vector that meets a row lies in no cube where the row is refuted.
@@ -97,4 +99,12 @@ pub fn traces_join()
     ensures { (known : KnownParts) (first second : List RowRef) (a b c : CubeParts)
         → cube_after known a first ≡ Some b → cube_after known b second ≡ Some c
         → cube_after known a (first ++ second) ≡ Some c }
+{}
+
+/// No vector that meets every row that is known for a problem lies in a cube where the combination
+/// of a reason is refuted: such a cube can be dropped.
+pub fn refuted_reasons_drop_cubes()
+    ensures { (known : KnownParts) (cube : CubeParts) (pairs : List Pair) (x : ℕ → Bool) → IsProblem known.problem
+        → IsKnown known → AllThere known pairs → is_together known pairs cube ≡ true → LiesIn x cube
+        → All (λ row. RowHolds row x) (known_rows known) → ⊥ }
 {}

@@ -40,7 +40,7 @@ pub use known::{Known, Pair, Reason, RowRef, Trace};
 pub use problem::Problem;
 pub use quiet_cubes::quiet;
 pub use row::{Row, Term};
-pub use together_of::together;
+pub use together_of::{pairs_together, together};
 
 #[cfg(test)]
 mod tests;

@@ -6,7 +6,7 @@ ghost use Rattle.rows.specs.Row.{int_sum_by, coef_at, row_of_cut};
 ghost use Rattle.rows.specs.Known.{parts_of, has_row, row_at, variables};
 ghost use Rattle.rows.specs.BaseRows.{cost_row_of};
 ghost use Rattle.rows.specs.Inner.Sums.{AreWithin, AreAdded};
-ghost use Rattle.rows.specs.Reason.{AllThere, row_of_pair, terms_times, is_together};
+ghost use Rattle.rows.specs.Reason.{IsReason, AllThere, row_of_pair, terms_times, is_together};
 
 use crate::activity::{End, taken};
 use crate::by_name::least_of;
@@ -92,26 +92,28 @@ fn add_pair(sums: &mut [i128; MEMBERS], known: &Known, pair: Pair)
 }
 
 // The coefficient of each variable when the rows of a reason are added up.
-fn combined_coefs(known: &Known, reason: &Reason) -> [i128; MEMBERS]
+fn combined_coefs(known: &Known, reason: &[Pair]) -> [i128; MEMBERS]
+    requires reason { IsReason reason.now }
     requires there { AllThere (parts_of known.now) reason.now }
     ensures value { (v : ℕ) → v < variables (parts_of known.now) → slice_index_or result v (pos 0)
         ≡ coef_at (flat_map (λ p. terms_times p.times (row_of_pair (parts_of known.now) p)) reason.now) v }
     ensures small { AreWithin (variables (parts_of known.now)) (64 * 10 ^ 28) result }
 {
     let mut sums = [0i128; MEMBERS];
-    for pair in reason.pairs() {
+    for pair in reason {
         add_pair(&mut sums, known, *pair);
     }
     sums
 }
 
 // What the sum of the rows of a reason must come to at least.
-fn combined_least(known: &Known, reason: &Reason) -> i128
-    requires { AllThere (parts_of known.now) reason.now }
+fn combined_least(known: &Known, reason: &[Pair]) -> i128
+    requires reason { IsReason reason.now }
+    requires there { AllThere (parts_of known.now) reason.now }
     ensures { result ≡ int_sum_by (λ p. pos p.times *ℤ (row_of_pair (parts_of known.now) p).least) reason.now }
 {
     let mut total: i128 = 0;
-    for pair in reason.pairs() {
+    for pair in reason {
         total += scaled(pair.times, least_of(known, pair.row));
     }
     total
@@ -123,10 +125,19 @@ pub fn together(known: &Known, reason: &Reason, cube: &Cube) -> bool
     requires { AllThere (parts_of known.now) reason.now }
     ensures { result ≡ is_together (parts_of known.now) reason.now cube.now }
 {
-    let coefs = combined_coefs(known, reason);
+    pairs_together(known, reason.pairs(), cube)
+}
+
+/// The same for the pairs of a reason that isn't made yet.
+pub fn pairs_together(known: &Known, pairs: &[Pair], cube: &Cube) -> bool
+    requires reason { IsReason pairs.now }
+    requires there { AllThere (parts_of known.now) pairs.now }
+    ensures { result ≡ is_together (parts_of known.now) pairs.now cube.now }
+{
+    let coefs = combined_coefs(known, pairs);
     let mut total: i128 = 0;
     for i in 0..variable_count(known.problem.library()) {
         total += taken(End::Greatest, cube.value(VarId(i)), coefs[i as usize]);
     }
-    total < combined_least(known, reason)
+    total < combined_least(known, pairs)
 }

@@ -8,7 +8,7 @@ use Rattle.rows.specs.Known.{parts_of, variables}
 use Rattle.rows.proofs.IntSums.{range_step}
 use Rattle.rows.proofs.Activities.{test_is}
 use Rattle.rows.proofs.Combinations.{combined_best, combined_activity, best_turn, best_small, adds_is, adds_small}
-use Rattle.rows.proofs.together_of.together.Goals as goal
+use Rattle.rows.proofs.together_of.pairs_together.Goals as goal
 
 pub loop-i-preserved : goal.loop-i-preserved
 loop-i-preserved c =
@@ -18,7 +18,7 @@ loop-i-preserved c =
     let small = best_small coef c.value.result c.taken-total.result (c.combined_coefs-coefs.ensures.small c.loop-i.i short) c.taken-total.ensures in
     let room : c.variable_count-i-end.result * (64 * 10 ^ 28) < 2 ^ 127 = omega (arith, c.variable_count-i-end.ensures.few) in
     record {
-      sum = range_step (combined_best (parts_of c.args.known.now) c.args.reason.now c.args.cube.now) c.loop-i.i _ c.taken-total.result _ c.loop-i.invariant.sum is
+      sum = range_step (combined_best (parts_of c.args.known.now) c.args.pairs.now c.args.cube.now) c.loop-i.i _ c.taken-total.result _ c.loop-i.invariant.sum is
           (adds_is _ c.taken-total.result c.loop-i.i c.variable_count-i-end.result (64 * 10 ^ 28) c.loop-i.invariant.small small (omega arith) c.loop-i-test.true room);
       small = adds_small _ c.taken-total.result c.loop-i.i c.variable_count-i-end.result (64 * 10 ^ 28) c.loop-i.invariant.small small (omega arith) c.loop-i-test.true room;
     }
@@ -29,5 +29,5 @@ returns c =
     let all : c.loop-i.i ≡ variables (parts_of c.args.known.now) = end ∙ c.variable_count-i-end.ensures.count ∙ ap member_count c.library.ensures.library in
     let fits : FitsSigned w128 c.combined_least.result = search rules in
     test_is _ _ _ _
-    (c.loop-i.invariant.sum ∙ ap (λ n. int_sum_by (combined_best (parts_of c.args.known.now) c.args.reason.now c.args.cube.now) (range_with_len 0 n)) all ∙ combined_activity (parts_of c.args.known.now) c.args.reason.now c.args.cube.now)
+    (c.loop-i.invariant.sum ∙ ap (λ n. int_sum_by (combined_best (parts_of c.args.known.now) c.args.pairs.now c.args.cube.now) (range_with_len 0 n)) all ∙ combined_activity (parts_of c.args.known.now) c.args.pairs.now c.args.cube.now)
     (to_z-of_z w128 c.combined_least.result fits ∙ c.combined_least.ensures)

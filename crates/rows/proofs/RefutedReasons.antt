@@ -1,7 +1,7 @@
 -- A vector that meets the rows of a reason meets their combination.
 use Rattle.std.proofs.Common.{◌≡◌, ℕ, zero, suc, ◌<◌, ℤ, pos, ◌+ℤ◌, ◌*ℤ◌, ◌≤ℤ◌, Bool, true, false, List, [], ◌∷◌, map, Option, Some, None, refl, sym, ap, subst, ◌∙◌, arith, if◌then◌else◌}
 use Rattle.std.specs.Prelude.{IfSome, IsTrue}
-use Rattle.std.specs.List.{AllByRecursion, flat_map}
+use Rattle.std.specs.List.{All, AllByRecursion, flat_map}
 use Rattle.std.proofs.Math.IntN.{suc_ℤ-*ℤ, zero-*ℤ, *ℤ-zero}
 use Rattle.std.proofs.lemmas.Int.{ints}
 use Rattle.std.proofs.lemmas.List.Elements.{recursion_from_All}
@@ -11,7 +11,7 @@ use Rattle.rows.specs.declared.known.Pair.{Pair}
 use Rattle.rows.specs.Parts.{RowParts, CubeParts, KnownParts}
 use Rattle.rows.specs.Row.{int_sum_by, term, value_of, RowHolds, IsRowBelow}
 use Rattle.rows.specs.Cube.{LiesIn}
-use Rattle.rows.specs.Known.{row_at, has_row, variables, IsKnown}
+use Rattle.rows.specs.Known.{row_at, has_row, variables, known_rows, IsKnown}
 use Rattle.rows.specs.Problem.{IsProblem}
 use Rattle.rows.specs.Reason.{AllThere, row_of_pair, terms_times, combination_of, is_together}
 use Rattle.rows.proofs.IntSums.{int_sum_by-append}
@@ -20,7 +20,6 @@ use Rattle.rows.proofs.EdgeRows.{holds_from}
 use Rattle.rows.proofs.AllParts.{all_flat, all_then}
 use Rattle.rows.proofs.CubeLaws.{holds_nowhere, is_refuted_when}
 use Rattle.rows.proofs.TraceLaws.{known_has, rows_below}
-use Rattle.propagate.specs.Closed.{MeetsKnown}
 
 -- what a row's terms come to, taken a number of times
 value_one : (k : ℕ) (on : Bool) (a : ℤ) → (if on then pos k *ℤ a else pos 0) ≡ pos k *ℤ (if on then a else pos 0)
@@ -87,7 +86,7 @@ combination_holds known x pairs below holds there =
     (sum_holds known x pairs (each_pair (λ row. RowHolds row x) known pairs holds is_there))
 
 -- so none that meets all rows that are known lies in a cube where a combination of them is refuted
-pub refuted_together : (known : KnownParts) (cube : CubeParts) (pairs : List Pair) (x : ℕ → Bool) → IsProblem known.problem → IsKnown known → AllThere known pairs → is_together known pairs cube ≡ true → LiesIn x cube → MeetsKnown known x → ⊥
+pub refuted_together : (known : KnownParts) (cube : CubeParts) (pairs : List Pair) (x : ℕ → Bool) → IsProblem known.problem → IsKnown known → AllThere known pairs → is_together known pairs cube ≡ true → LiesIn x cube → All (λ row. RowHolds row x) (known_rows known) → ⊥
 refuted_together known cube pairs x is ok there refuted lies meets =
     holds_nowhere (combination_of known pairs) cube x lies
     (combination_holds known x pairs (λ r row at. known_has (IsRowBelow (variables known)) known r row (rows_below known is ok) at) (λ r row at. known_has (λ w. RowHolds w x) known r row meets at) there)
