@@ -35,7 +35,7 @@ pub fn narrowed(alloc: Global, known: &Known, cube: Cube) -> Result<Left, Memory
         Closed::Refuted { .. } => Ok(Left::Nothing),
         Closed::Full { cube, .. } => Ok(Left::One(cube)),
         Closed::Quiet { cube, .. } => {
-            let ascent = ascend(alloc, known, &cube)?;
+            let ascent = ascend(known, &cube);
             match ascent.settle(alloc, known, &cube)? {
                 Bounded::Refuted(_reason) => Ok(Left::Nothing),
                 Bounded::Open(spent) => match branching_variable(known, &cube, &spent) {

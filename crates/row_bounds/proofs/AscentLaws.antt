@@ -1,5 +1,5 @@
 -- The ascent, row after row.
-use Rattle.std.proofs.Common.{◌≡◌, ◌≢◌, ℕ, zero, suc, ◌+◌, ◌^◌, ◌<◌, ◌≤◌, min, pos, int_lt, Bool, true, false, cond, not, ◌&&◌, nat_lt, nat_le, List, [], ◌∷◌, ◌++◌, map, fold, drop, set, replicate, length, get_or, slice_get, Option, Some, None, IfSome, IsTrue, IsSome, is_some, option_map, refl, sym, ap, subst, ◌∙◌, arith, inl, inr}
+use Rattle.std.proofs.Common.{◌≡◌, ◌≢◌, ℕ, zero, suc, ◌+◌, ◌^◌, ◌<◌, ◌≤◌, min, pos, int_lt, Bool, true, false, cond, ◌&&◌, nat_lt, nat_le, List, [], ◌∷◌, ◌++◌, map, fold, drop, set, replicate, length, get_or, slice_get, Option, Some, None, IfSome, IsTrue, IsSome, is_some, option_map, refl, sym, ap, subst, ◌∙◌, arith, inl, inr}
 use Rattle.std.specs.Prelude.{filter_map, slice_index}
 use Rattle.std.specs.List.{AllByRecursion, enumerate_from, cons_option}
 use Rattle.std.proofs.lemmas.Bool.{lt-ltb, cases_lt}
@@ -38,14 +38,6 @@ each_some P None each = tt
 
 pub at_some : {X : Type 0} (P : X → Type 0) (o : Option X) (x : X) → o ≡ Some x → P x → IfSome o P
 at_some {X = X} P o x e h = let Q : Option X → Type 0 = λ p. IfSome p P in subst Q (sym e) h
-
-pub off_by : (b : Bool) → not b ≡ true → b ≡ false
-off_by true h = sym h
-off_by false h = refl
-
-pub on_by : (b : Bool) → not b ≡ false → b ≡ true
-on_by true h = refl
-on_by false h = sym h
 
 -- one row that is looked at
 same_quotient : (cube : CubeParts) (f g : ℕ → ℕ) (t : Term) → f t.var.0 ≡ g t.var.0 → quotient_at cube f t ≡ quotient_at cube g t

@@ -5,15 +5,14 @@ ghost use Rattle.rows.specs.Reason.{AllThere, IsReason, is_together};
 ghost use Rattle.rows.specs.Ascent.{is_ascent_refuted, whole_ascent, residue_of};
 ghost use Rattle.row_bounds.specs.Bounded.{reason_in};
 
-use crate::ascent::climb;
+use crate::ascent::{Rising, climb};
 use crate::bounded::Bounded;
 use crate::buying::climb_scaled;
-use crate::residues::Residues;
 use crate::shortlist::Shortlist;
 use crate::spending::spent_variables;
-use arch_model::Memory;
 use arch_model::limits::MEMBERS;
-use rows::{Cube, Known, Pair, Reason, together};
+use arch_model::{Memory, VarId};
+use rows::{Cube, Known, Pair, Reason, pairs_together};
 use std::alloc::Global;
 use std::marker::Model;
 
@@ -22,8 +21,7 @@ use std::marker::Model;
 /// (`IsReason`).
 #[derive(Drop)]
 pub struct Ascent {
-    pairs: Vec<Pair>,
-    residues: Residues,
+    rising: Rising,
     list: Shortlist,
 }
 
@@ -33,9 +31,9 @@ impl Model for Ascent {
 
     ghost Value = { AscentParts };
 
-    ghost view = { λ a. record { pairs = a.pairs.items; residues = a.residues } };
+    ghost view = { λ a. record { pairs = a.rising.pairs; residues = a.rising.residue } };
 
-    ghost invariant = { λ a. IsReason a.pairs.items };
+    ghost invariant = { λ a. IsReason a.rising.pairs };
 }
 
 impl Ascent {
@@ -44,34 +42,35 @@ impl Ascent {
         ensures pairs { result.now ≡ self.now.pairs }
         ensures reason { IsReason self.now.pairs }
     {
-        self.pairs.as_slice()
+        self.rising.pairs.as_slice()
     }
 
-    /// What the ascent leaves of each variable's cost, in cost units.
-    pub fn residues(&self) -> &Residues
-        ensures { result.now ≡ self.now.residues }
+    /// What the ascent leaves of a variable's cost, in cost units.
+    pub fn residue(&self, v: VarId) -> u128
+        requires { v.0 < MEMBERS }
+        ensures { result ≡ slice_index self.now.residues v.0 }
     {
-        &self.residues
+        self.rising.residue[v.0 as usize]
     }
 
     /// Takes an ascent to its end: its own reason where its combination is refuted in the cube, else
     /// that of a stronger candidate, else the variables of whose cost that leaves nothing. `Open`
     /// comes only where there is no bound or the ascent isn't refuted. The only error is want of
-    /// memory.
-    pub fn settle(self, alloc: Global, known: &Known, cube: &Cube) -> Result<Bounded, Memory>
+    /// memory, which is taken for a reason alone.
+    pub fn settle(&self, alloc: Global, known: &Known, cube: &Cube) -> Result<Bounded, Memory>
         requires known { IsKnown (parts_of known.now) }
-        requires ascent { self.pairs ≡ (whole_ascent (parts_of known.now) cube.now).pairs }
+        requires ascent { self.now.pairs ≡ (whole_ascent (parts_of known.now) cube.now).pairs }
         ensures there { IfOk result (λ b. IfSome (reason_in b) (AllThere (parts_of known.now))) }
         ensures refuted { IfOk result
             (λ b. IfSome (reason_in b) (λ reason. IsTrue (is_together (parts_of known.now) reason cube.now))) }
         ensures open_yet { IfOk result
             (λ b. IfNone (reason_in b) (is_ascent_refuted (parts_of known.now) cube.now ≡ false)) }
     {
-        if let Some(reason) = judged(alloc, known, self.pairs, cube)? {
+        if let Some(reason) = judged(alloc, known, self.pairs(), cube)? {
             return Ok(Bounded::Refuted(reason));
         }
-        let second = climb_scaled(alloc, known, &self.list, cube)?;
-        if let Some(reason) = judged(alloc, known, second.pairs, cube)? {
+        let second = climb_scaled(known, &self.list, cube);
+        if let Some(reason) = judged(alloc, known, second.pairs.as_slice(), cube)? {
             return Ok(Bounded::Refuted(reason));
         }
         Ok(Bounded::Open(spent_variables(known.problem.library(), &second.residue)))
@@ -83,43 +82,38 @@ impl Ascent {
 fn judged(
     alloc: Global,
     known: &Known,
-    pairs: Vec<Pair>,
+    pairs: &[Pair],
     cube: &Cube,
 ) -> Result<Option<Reason>, Memory>
-    requires reason { IsReason pairs.items }
-    requires there { IsSome known.now.bound → AllThere (parts_of known.now) pairs.items }
+    requires reason { IsReason pairs.now }
+    requires there { IsSome known.now.bound → AllThere (parts_of known.now) pairs.now }
     ensures there { IfOk result (λ found. IfSome found (λ reason. AllThere (parts_of known.now) reason)) }
     ensures refuted { IfOk result
         (λ found. IfSome found (λ reason. IsTrue (is_together (parts_of known.now) reason cube.now))) }
     ensures none { IfOk result (λ found. IfNone found
-        (IsSome known.now.bound → is_together (parts_of known.now) pairs.items cube.now ≡ false)) }
+        (IsSome known.now.bound → is_together (parts_of known.now) pairs.now cube.now ≡ false)) }
 {
     if known.bound.is_none() {
         return Ok(None);
     }
-    let reason = Reason::new(pairs);
-    if !together(known, &reason, cube) {
+    if !pairs_together(known, pairs, cube) {
         return Ok(None);
     }
-    Ok(Some(Reason::new(reason.pairs().to_vec(alloc)?)))
+    Ok(Some(Reason::new(pairs.to_vec(alloc)?)))
 }
 
 /// The ascent in a cube, also where there is no bound: then its pairs are no reason, since there is
-/// no cost row, and what it leaves is as with a bound. The only error is want of memory.
-pub fn ascend(alloc: Global, known: &Known, cube: &Cube) -> Result<Ascent, Memory>
+/// no cost row, and what it leaves is as with a bound. It takes no memory.
+pub fn ascend(known: &Known, cube: &Cube) -> Ascent
     requires { IsKnown (parts_of known.now) }
-    ensures pairs { IfOk result (λ a. a.pairs ≡ (whole_ascent (parts_of known.now) cube.now).pairs) }
-    ensures residues { IfOk result (λ a. (v : ℕ) → v < MEMBERS
-        → slice_index a.residues v ≡ residue_of (parts_of known.now) cube.now v) }
-    ensures there { IfOk result (λ a. IsSome known.now.bound → AllThere (parts_of known.now) a.pairs) }
+    ensures pairs { result.pairs ≡ (whole_ascent (parts_of known.now) cube.now).pairs }
+    ensures residues { (v : ℕ) → v < MEMBERS
+        → slice_index result.residues v ≡ residue_of (parts_of known.now) cube.now v }
+    ensures there { IsSome known.now.bound → AllThere (parts_of known.now) result.pairs }
 {
     let mut list = Shortlist::new();
-    let rising = climb(alloc, known, cube, &mut list)?;
-    Ok(Ascent {
-        pairs: rising.pairs,
-        residues: Residues::new(rising.residue),
-        list,
-    })
+    let rising = climb(known, cube, &mut list);
+    Ascent { rising, list }
 }
 
 /// A reason whose combination is refuted in the cube: the ascent's, or else that of a stronger
@@ -137,7 +131,7 @@ pub fn lift(alloc: Global, known: &Known, cube: &Cube) -> Result<Option<Reason>,
     if known.bound.is_none() {
         return Ok(None);
     }
-    match ascend(alloc, known, cube)?.settle(alloc, known, cube)? {
+    match ascend(known, cube).settle(alloc, known, cube)? {
         Bounded::Refuted(reason) => Ok(Some(reason)),
         Bounded::Open(_) => Ok(None),
     }

@@ -6,19 +6,19 @@
 // row could be added more often but for an edge of which too little is left, the edge buys that out
 // of what is left of its ends, through its own two rows: so a bound sees what the components behind
 // an edge cost.
-ghost use Rattle.std.specs.Prelude.{◌≡◌, ℕ, ◌≤◌, ◌<◌, ◌^◌, length, slice_index, vec_capacity, IfOk};
+ghost use Rattle.std.specs.Prelude.{◌≡◌, ℕ, ◌≤◌, ◌<◌, ◌^◌, length, slice_index};
 ghost use Rattle.rows.specs.Known.{parts_of, IsKnown};
 ghost use Rattle.row_bounds.specs.Inner.Climb.{IsRising};
 
-use crate::ascent::{PAIRS, Rising};
+use crate::ascent::Rising;
+use crate::pair_list::PairList;
 use crate::shortlist::{MANY, Shortlist};
 use crate::spending::{
-    MOST, base_row, free_of_cut, look_at_row, spend_cut, spend_row, times_of_cut,
+    MOST, base_row, free_of_cut, goes_into, look_at_row, spend_cut, spend_row, times_of_cut,
 };
 use arch_model::limits::MEMBERS;
-use arch_model::{CompId, Edge, Library, MemberSet, Memory, VarId};
+use arch_model::{CompId, Edge, Library, MemberSet, VarId};
 use rows::{Cube, Known, Pair, Row, RowRef, Term, member_cost, variable_count};
-use std::alloc::Global;
 
 // How often the cost row is taken.
 const SCALE: u64 = 1000;
@@ -35,19 +35,16 @@ fn scaled_costs(lib: &Library) -> [u128; MEMBERS]
 }
 
 // The first pair is the cost row.
-fn begin_scaled(alloc: Global, known: &Known) -> Result<Rising, Memory>
-    ensures rising { IfOk result (λ r. IsRising (parts_of known.now) r.pairs.items r.residue) }
-    ensures room { IfOk result (λ r. vec_capacity r.pairs ≡ 64) }
+fn begin_scaled(known: &Known) -> Rising
+    ensures { IsRising (parts_of known.now) result.pairs result.residue }
 {
-    let mut pairs = Vec::with_capacity(alloc, PAIRS)?;
-    pairs.push_reserved(Pair {
-        row: RowRef::Cost,
-        times: SCALE,
-    });
-    Ok(Rising {
-        pairs,
+    Rising {
+        pairs: PairList::of(Pair {
+            row: RowRef::Cost,
+            times: SCALE,
+        }),
         residue: scaled_costs(known.problem.library()),
-    })
+    }
 }
 
 // The edge that a variable is, with its number.
@@ -83,7 +80,7 @@ fn reach_of_row(lib: &Library, row: &Row, cube: &Cube, residue: &[u128; MEMBERS]
     for term in row.terms() {
         if term.coef > 0 && !fixed.has(term.var) {
             let reach = within_reach(lib, cube, term.var, residue);
-            most = most.min(reach / term.coef.unsigned_abs());
+            most = most.min(goes_into(term.coef.unsigned_abs(), reach));
         }
     }
     most
@@ -102,16 +99,14 @@ fn reach_of_all(lib: &Library, free: &MemberSet, cube: &Cube, residue: &[u128; M
 // Adds a base row a number of times, where there is room for a pair.
 fn add_base(known: &Known, i: u32, times: u64, rising: &mut Rising)
     requires few { times ≤ 10 ^ 12 }
-    requires rising { IsRising (parts_of known.now) rising.old.pairs.items rising.old.residue }
-    requires room { vec_capacity rising.old.pairs ≡ 64 }
-    ensures rising { IsRising (parts_of known.now) rising.new.pairs.items rising.new.residue }
-    ensures room { vec_capacity rising.new.pairs ≡ 64 }
+    requires rising { IsRising (parts_of known.now) rising.old.pairs rising.old.residue }
+    ensures rising { IsRising (parts_of known.now) rising.new.pairs rising.new.residue }
 {
-    if times == 0 || rising.is_full() || i as usize >= known.problem.base().len() {
+    if times == 0 || rising.pairs.is_full() || i as usize >= known.problem.base().len() {
         return;
     }
     spend_row(&mut rising.residue, base_row(known.problem, i), times);
-    rising.pairs.push_reserved(Pair {
+    rising.pairs.push(Pair {
         row: RowRef::Base(i),
         times,
     });
@@ -122,16 +117,14 @@ fn add_cut(known: &Known, j: u32, times: u64, rising: &mut Rising)
     requires known { IsKnown (parts_of known.now) }
     requires short { j < known.now.upto }
     requires few { times ≤ 10 ^ 12 }
-    requires rising { IsRising (parts_of known.now) rising.old.pairs.items rising.old.residue }
-    requires room { vec_capacity rising.old.pairs ≡ 64 }
-    ensures rising { IsRising (parts_of known.now) rising.new.pairs.items rising.new.residue }
-    ensures room { vec_capacity rising.new.pairs ≡ 64 }
+    requires rising { IsRising (parts_of known.now) rising.old.pairs rising.old.residue }
+    ensures rising { IsRising (parts_of known.now) rising.new.pairs rising.new.residue }
 {
-    if times == 0 || rising.is_full() {
+    if times == 0 || rising.pairs.is_full() {
         return;
     }
     spend_cut(&mut rising.residue, &known.cuts.get(j), times);
-    rising.pairs.push_reserved(Pair {
+    rising.pairs.push(Pair {
         row: RowRef::Cut(j),
         times,
     });
@@ -146,10 +139,8 @@ fn buy_from(
     cube: &Cube,
     rising: &mut Rising,
 ) -> u128
-    requires rising { IsRising (parts_of known.now) rising.old.pairs.items rising.old.residue }
-    requires room { vec_capacity rising.old.pairs ≡ 64 }
-    ensures rising { IsRising (parts_of known.now) rising.new.pairs.items rising.new.residue }
-    ensures room { vec_capacity rising.new.pairs ≡ 64 }
+    requires rising { IsRising (parts_of known.now) rising.old.pairs rising.old.residue }
+    ensures rising { IsRising (parts_of known.now) rising.new.pairs rising.new.residue }
 {
     let times = left_at(cube, end, &rising.residue).min(need).min(MOST);
     add_base(known, i, times as u64, rising);
@@ -158,10 +149,8 @@ fn buy_from(
 
 // Buys for an edge, out of its ends, what it lacks to have this much left.
 fn supply(known: &Known, v: VarId, want: u128, cube: &Cube, rising: &mut Rising)
-    requires rising { IsRising (parts_of known.now) rising.old.pairs.items rising.old.residue }
-    requires room { vec_capacity rising.old.pairs ≡ 64 }
-    ensures rising { IsRising (parts_of known.now) rising.new.pairs.items rising.new.residue }
-    ensures room { vec_capacity rising.new.pairs ≡ 64 }
+    requires rising { IsRising (parts_of known.now) rising.old.pairs rising.old.residue }
+    ensures rising { IsRising (parts_of known.now) rising.new.pairs rising.new.residue }
 {
     let has = rising.residue.get(v.0 as usize).copied().unwrap_or(want);
     let need = want.saturating_sub(has);
@@ -185,10 +174,8 @@ fn supply(known: &Known, v: VarId, want: u128, cube: &Cube, rising: &mut Rising)
 
 // Buys for the edge of a term what it lacks for its row to be added this often.
 fn supply_term(known: &Known, term: Term, most: u128, cube: &Cube, rising: &mut Rising)
-    requires rising { IsRising (parts_of known.now) rising.old.pairs.items rising.old.residue }
-    requires room { vec_capacity rising.old.pairs ≡ 64 }
-    ensures rising { IsRising (parts_of known.now) rising.new.pairs.items rising.new.residue }
-    ensures room { vec_capacity rising.new.pairs ≡ 64 }
+    requires rising { IsRising (parts_of known.now) rising.old.pairs rising.old.residue }
+    ensures rising { IsRising (parts_of known.now) rising.new.pairs rising.new.residue }
 {
     if term.coef > 0 && cube.value(term.var).is_none() {
         let want = most.saturating_mul(term.coef.unsigned_abs());
@@ -198,10 +185,8 @@ fn supply_term(known: &Known, term: Term, most: u128, cube: &Cube, rising: &mut 
 
 // Buys for each edge among some variables what it lacks to have this much left.
 fn supply_all(known: &Known, free: &MemberSet, want: u128, cube: &Cube, rising: &mut Rising)
-    requires rising { IsRising (parts_of known.now) rising.old.pairs.items rising.old.residue }
-    requires room { vec_capacity rising.old.pairs ≡ 64 }
-    ensures rising { IsRising (parts_of known.now) rising.new.pairs.items rising.new.residue }
-    ensures room { vec_capacity rising.new.pairs ≡ 64 }
+    requires rising { IsRising (parts_of known.now) rising.old.pairs rising.old.residue }
+    ensures rising { IsRising (parts_of known.now) rising.new.pairs rising.new.residue }
 {
     for v in free.members() {
         supply(known, v, want, cube, rising);
@@ -211,10 +196,8 @@ fn supply_all(known: &Known, free: &MemberSet, want: u128, cube: &Cube, rising: 
 // Adds a base row as often as it may be once its edges have bought what they lack.
 fn raise_base(known: &Known, i: u32, cube: &Cube, rising: &mut Rising)
     requires short { i < length known.now.problem.now.base }
-    requires rising { IsRising (parts_of known.now) rising.old.pairs.items rising.old.residue }
-    requires room { vec_capacity rising.old.pairs ≡ 64 }
-    ensures rising { IsRising (parts_of known.now) rising.new.pairs.items rising.new.residue }
-    ensures room { vec_capacity rising.new.pairs ≡ 64 }
+    requires rising { IsRising (parts_of known.now) rising.old.pairs rising.old.residue }
+    ensures rising { IsRising (parts_of known.now) rising.new.pairs rising.new.residue }
 {
     let row = base_row(known.problem, i);
     let most = reach_of_row(known.problem.library(), row, cube, &rising.residue);
@@ -232,10 +215,8 @@ fn raise_base(known: &Known, i: u32, cube: &Cube, rising: &mut Rising)
 fn raise_cut(known: &Known, j: u32, cube: &Cube, rising: &mut Rising)
     requires known { IsKnown (parts_of known.now) }
     requires short { j < known.now.upto }
-    requires rising { IsRising (parts_of known.now) rising.old.pairs.items rising.old.residue }
-    requires room { vec_capacity rising.old.pairs ≡ 64 }
-    ensures rising { IsRising (parts_of known.now) rising.new.pairs.items rising.new.residue }
-    ensures room { vec_capacity rising.new.pairs ≡ 64 }
+    requires rising { IsRising (parts_of known.now) rising.old.pairs rising.old.residue }
+    ensures rising { IsRising (parts_of known.now) rising.new.pairs rising.new.residue }
 {
     let cut = known.cuts.get(j);
     let free = free_of_cut(&cut, cube);
@@ -251,12 +232,10 @@ fn raise_cut(known: &Known, j: u32, cube: &Cube, rising: &mut Rising)
 // The same for the row of this name, while there is room for a pair. The cost row is in already.
 fn raise(known: &Known, name: RowRef, cube: &Cube, rising: &mut Rising)
     requires known { IsKnown (parts_of known.now) }
-    requires rising { IsRising (parts_of known.now) rising.old.pairs.items rising.old.residue }
-    requires room { vec_capacity rising.old.pairs ≡ 64 }
-    ensures rising { IsRising (parts_of known.now) rising.new.pairs.items rising.new.residue }
-    ensures room { vec_capacity rising.new.pairs ≡ 64 }
+    requires rising { IsRising (parts_of known.now) rising.old.pairs rising.old.residue }
+    ensures rising { IsRising (parts_of known.now) rising.new.pairs rising.new.residue }
 {
-    if rising.is_full() {
+    if rising.pairs.is_full() {
         return;
     }
     match name {
@@ -277,10 +256,8 @@ fn raise(known: &Known, name: RowRef, cube: &Cube, rising: &mut Rising)
 // Raises the rows that have this many free helpers.
 fn pass(known: &Known, list: &Shortlist, helpers: usize, cube: &Cube, rising: &mut Rising)
     requires known { IsKnown (parts_of known.now) }
-    requires rising { IsRising (parts_of known.now) rising.old.pairs.items rising.old.residue }
-    requires room { vec_capacity rising.old.pairs ≡ 64 }
-    ensures rising { IsRising (parts_of known.now) rising.new.pairs.items rising.new.residue }
-    ensures room { vec_capacity rising.new.pairs ≡ 64 }
+    requires rising { IsRising (parts_of known.now) rising.old.pairs rising.old.residue }
+    ensures rising { IsRising (parts_of known.now) rising.new.pairs rising.new.residue }
 {
     for place in 0..list.len() {
         if let Some(name) = list.at(place, helpers) {
@@ -291,18 +268,13 @@ fn pass(known: &Known, list: &Shortlist, helpers: usize, cube: &Cube, rising: &m
 
 // The second candidate, over the rows that an ascent noted: those with the fewest free helpers
 // first.
-pub(crate) fn climb_scaled(
-    alloc: Global,
-    known: &Known,
-    list: &Shortlist,
-    cube: &Cube,
-) -> Result<Rising, Memory>
+pub(crate) fn climb_scaled(known: &Known, list: &Shortlist, cube: &Cube) -> Rising
     requires { IsKnown (parts_of known.now) }
-    ensures { IfOk result (λ r. IsRising (parts_of known.now) r.pairs.items r.residue) }
+    ensures { IsRising (parts_of known.now) result.pairs result.residue }
 {
-    let mut rising = begin_scaled(alloc, known)?;
+    let mut rising = begin_scaled(known);
     for helpers in 1..MANY + 1 {
         pass(known, list, helpers, cube, &mut rising);
     }
-    Ok(rising)
+    rising
 }

@@ -13,8 +13,8 @@
 //! a reason: `together` of `rows` judges it.
 //!
 //! It stands on `rows` and `arch_model`. A row that the variables at 1 meet by themselves is read
-//! once in a cube, any other a few times. Residues lie in an array on the stack; memory is taken
-//! for two lists of 64 pairs, and for the reason that is answered, without spare room.
+//! once in a cube, any other a few times. Pairs and residues lie in arrays on the stack; memory is
+//! taken for the reason that is answered alone, without spare room.
 #![tactic(auto)]
 
 mod ascent;
@@ -22,14 +22,13 @@ mod bounded;
 mod bounding;
 mod branching;
 mod buying;
-mod residues;
+mod pair_list;
 mod shortlist;
 mod spending;
 
 pub use bounded::Bounded;
 pub use bounding::{Ascent, ascend, lift};
 pub use branching::branching_variable;
-pub use residues::Residues;
 
 #[cfg(test)]
 mod tests;

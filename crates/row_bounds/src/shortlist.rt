@@ -21,8 +21,10 @@ struct Listed {
 pub(crate) struct Shortlist {
     rows: [Listed; ROOM],
     count: usize,
-    // from where on a row gives way to a new one
-    turn: usize,
+    // from where on a row of many helpers may stand that was there when the list was full
+    sought: usize,
+    // the row that gives way to a new one where there is none
+    oldest: usize,
 }
 
 impl Shortlist {
@@ -35,7 +37,8 @@ impl Shortlist {
         Shortlist {
             rows: [none; ROOM],
             count: 0,
-            turn: 0,
+            sought: 0,
+            oldest: 0,
         }
     }
 
@@ -44,18 +47,20 @@ impl Shortlist {
         self.count
     }
 
-    // The place of a row that gives way: the next one of many helpers, else the next one.
+    // The place of a row that gives way: those of many helpers first, then all in turn. The list is
+    // searched once, not for each new row.
     fn next_to_go(&mut self) -> usize
         ensures { result < ROOM }
     {
-        for place in self.turn..ROOM {
+        for place in self.sought..ROOM {
             if self.rows[place].helpers == MANY {
-                self.turn = place + 1;
+                self.sought = place + 1;
                 return place;
             }
         }
-        let place = self.turn % ROOM;
-        self.turn = place + 1;
+        self.sought = ROOM;
+        let place = self.oldest % ROOM;
+        self.oldest = place + 1;
         place
     }
 

@@ -1,5 +1,5 @@
 // What a row takes of the residues: how often it may be added, and what it leaves then.
-ghost use Rattle.std.specs.Prelude.{◌≡◌, ℕ, pos, ◌+◌, ◌*◌, ◌-◌, ◌≤◌, ◌<◌, ◌^◌, if◌then◌else◌};
+ghost use Rattle.std.specs.Prelude.{◌≡◌, ℕ, pos, ◌+◌, ◌*◌, ◌-◌, ◌/◌, ◌≤◌, ◌<◌, ◌^◌, if◌then◌else◌};
 ghost use Rattle.std.specs.Prelude.{slice_index, slice_get, length, Some};
 ghost use Rattle.arch_model.specs.Set.{has, minus};
 ghost use Rattle.rows.specs.Row.{IsSized, IsRowBelow, coef_at, cut_coef, row_of_cut};
@@ -25,6 +25,14 @@ pub(crate) fn base_row(problem: &Problem, i: u32) -> &Row
     &problem.base()[i as usize]
 }
 
+// How often a number goes into another. Most coefficients are 1, and wide numbers divide slowly.
+pub(crate) fn goes_into(coef: u128, residue: u128) -> u128
+    requires { 1 ≤ coef }
+    ensures { result ≡ residue / coef }
+{
+    if coef == 1 { residue } else { residue / coef }
+}
+
 // How often a coefficient goes into what is left of its variable's cost, where it can at all.
 pub(crate) fn quotient(fixed: bool, coef: i128, residue: u128) -> Option<u128>
     ensures { result ≡ quotient_by fixed coef residue }
@@ -35,7 +43,7 @@ pub(crate) fn quotient(fixed: bool, coef: i128, residue: u128) -> Option<u128>
     if coef <= 0 {
         return None;
     }
-    Some(residue / coef.unsigned_abs())
+    Some(goes_into(coef.unsigned_abs(), residue))
 }
 
 // What is left of a residue once a coefficient was taken a number of times.
@@ -60,17 +68,6 @@ pub(crate) fn free_of_cut(cut: &CutRow, cube: &Cube) -> MemberSet
     cut.plus().minus(&cube.fixed())
 }
 
-// What the ascent asks of a row.
-#[derive(Clone, Copy)]
-pub(crate) struct Look {
-    // the variables at 1 don't meet it by themselves
-    pub(crate) wanting: bool,
-    // how many free variables would help to meet it
-    pub(crate) helpers: usize,
-    // how often it may be added
-    pub(crate) times: u64,
-}
-
 // What a variable that is at 1, or isn't, adds to a sum.
 fn at_one(one: bool, coef: i128) -> i128
     ensures { result ≡ (if one then coef else pos 0) }
@@ -78,20 +75,37 @@ fn at_one(one: bool, coef: i128) -> i128
     if one { coef } else { 0 }
 }
 
-// All that the ascent asks of a row, in one pass over its terms.
+// Whether the variables at 1 don't meet a row by themselves. Only then is more asked of it.
+pub(crate) fn is_row_wanting(row: &Row, cube: &Cube) -> bool
+    ensures { result ≡ is_wanting cube.now row.now }
+{
+    let ones = cube.ones();
+    let mut total: i128 = 0;
+    for term in row.terms() {
+        total += at_one(ones.has(term.var), term.coef);
+    }
+    total < row.least()
+}
+
+// What the ascent asks of a row that the variables at 1 don't meet.
+#[derive(Clone, Copy)]
+pub(crate) struct Look {
+    // how many free variables would help to meet it
+    pub(crate) helpers: usize,
+    // how often it may be added
+    pub(crate) times: u64,
+}
+
+// That in one pass over the row's terms.
 pub(crate) fn look_at_row(row: &Row, cube: &Cube, residue: &[u128; MEMBERS]) -> Look
     requires { IsRowBelow MEMBERS row.now }
-    ensures wanting { result.wanting ≡ is_wanting cube.now row.now }
     ensures times { result.times ≡ times_of cube.now (slice_index residue.now) row.now }
     ensures few { result.times ≤ 10 ^ 12 }
 {
     let fixed = cube.fixed();
-    let ones = cube.ones();
-    let mut total: i128 = 0;
     let mut helpers = 0;
     let mut times = MOST;
     for term in row.terms() {
-        total += at_one(ones.has(term.var), term.coef);
         let left = residue[term.var.0 as usize];
         if let Some(most) = quotient(fixed.has(term.var), term.coef, left) {
             times = times.min(most);
@@ -99,7 +113,6 @@ pub(crate) fn look_at_row(row: &Row, cube: &Cube, residue: &[u128; MEMBERS]) -> 
         }
     }
     Look {
-        wanting: total < row.least(),
         helpers,
         times: times as u64,
     }

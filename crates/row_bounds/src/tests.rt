@@ -87,9 +87,9 @@ fn an_ascent_is_settled(rt: HostRuntime) -> Result<(), Fail> {
     let cuts = broken_cuts(alloc, 1)?;
     let whole = Cube::whole();
     let known = known(&problem, &cuts, 1, Some(1_000_000_000_000));
-    let ascent = ascend(alloc, &known, &whole)?;
+    let ascent = ascend(&known, &whole);
     assert_eq!(rt; ascent.pairs().len(), 2);
-    assert_eq!(rt; ascent.residues().of(VarId(575)), 0);
+    assert_eq!(rt; ascent.residue(VarId(575)), 0);
     match ascent.settle(alloc, &known, &whole)? {
         Bounded::Refuted(reason) => {
             let last = Pair {
@@ -110,7 +110,7 @@ fn there_is_nothing_to_branch_on(rt: HostRuntime) -> Result<(), Fail> {
     let cuts = broken_cuts(alloc, 0)?;
     let whole = Cube::whole();
     let known = known(&problem, &cuts, 0, None);
-    let ascent = ascend(alloc, &known, &whole)?;
+    let ascent = ascend(&known, &whole);
     assert_eq!(rt; branching_variable(&known, &whole, &MemberSet::new()), None);
     match ascent.settle(alloc, &known, &whole)? {
         Bounded::Refuted(_reason) => assert!(rt; false),

@@ -8,13 +8,12 @@ loop-i-preserved c =
     let short : c.loop-i.i < length c.args.known.now.problem.now.base = omega (arith, ap length c.base.ensures.rows) in
     record {
       rising = c.look_at_base.ensures.rising;
-      room = c.look_at_base.ensures.room;
       climbs =
-          base_more (parts_of c.args.known.now) c.args.cube.now c.args.rising.now.pairs.items c.args.rising.now.residue c.loop-i.rising.pairs.items c.loop-i.rising.residue c.look_at_base.new.rising.pairs.items c.look_at_base.new.rising.residue c.loop-i.i short
+          base_more (parts_of c.args.known.now) c.args.cube.now c.args.rising.now.pairs c.args.rising.now.residue c.loop-i.rising.pairs c.loop-i.rising.residue c.look_at_base.new.rising.pairs c.look_at_base.new.rising.residue c.loop-i.i short
           c.loop-i.invariant.climbs c.look_at_base.ensures.follows;
     }
 
 pub returns-clause-follows : goal.returns-clause-follows
 returns-clause-follows c =
     let far : length c.args.known.now.problem.now.base ≤ c.loop-i.i = omega (arith, ap length c.base.ensures.rows) in
-    base_end (parts_of c.args.known.now) c.args.cube.now c.args.rising.now.pairs.items c.args.rising.now.residue c.loop-i.rising.pairs.items c.loop-i.rising.residue c.loop-i.i far c.loop-i.invariant.climbs
+    base_end (parts_of c.args.known.now) c.args.cube.now c.args.rising.now.pairs c.args.rising.now.residue c.loop-i.rising.pairs c.loop-i.rising.residue c.loop-i.i far c.loop-i.invariant.climbs

@@ -10,9 +10,8 @@ loop-j-preserved c =
     let short : c.loop-j.j < length (known_cuts known) = omega (arith, length-take known.upto known.cuts, c.requires.known.upto) in
     record {
       rising = c.look_at_cut.ensures.rising;
-      room = c.look_at_cut.ensures.room;
       climbs =
-          cuts_more known c.args.cube.now c.args.rising.now.pairs.items c.args.rising.now.residue c.loop-j.rising.pairs.items c.loop-j.rising.residue c.look_at_cut.new.rising.pairs.items c.look_at_cut.new.rising.residue c.loop-j.j short
+          cuts_more known c.args.cube.now c.args.rising.now.pairs c.args.rising.now.residue c.loop-j.rising.pairs c.loop-j.rising.residue c.look_at_cut.new.rising.pairs c.look_at_cut.new.rising.residue c.loop-j.j short
           c.loop-j.invariant.climbs c.look_at_cut.ensures.follows;
     }
 
@@ -20,4 +19,4 @@ pub returns-clause-follows : goal.returns-clause-follows
 returns-clause-follows c =
     let known = parts_of c.args.known.now in
     let far : length (known_cuts known) ≤ c.loop-j.j = omega (arith, length-take known.upto known.cuts, c.requires.known.upto) in
-    cuts_end known c.args.cube.now c.args.rising.now.pairs.items c.args.rising.now.residue c.loop-j.rising.pairs.items c.loop-j.rising.residue c.loop-j.j far c.loop-j.invariant.climbs
+    cuts_end known c.args.cube.now c.args.rising.now.pairs c.args.rising.now.residue c.loop-j.rising.pairs c.loop-j.rising.residue c.loop-j.j far c.loop-j.invariant.climbs

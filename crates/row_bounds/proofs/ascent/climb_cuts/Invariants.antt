@@ -1,4 +1,3 @@
-use Rattle.std.proofs.Common.{◌≡◌, vec_capacity}
 use Rattle.rows.specs.Known.{parts_of}
 use Rattle.row_bounds.specs.Inner.Climb.{IsRising}
 use Rattle.row_bounds.proofs.AscentLaws.{ClimbsCuts}
@@ -6,7 +5,6 @@ use Rattle.row_bounds.proofs.ascent.climb_cuts.Given as goal
 
 abbrev pub invariant-loop-j : goal.invariant-loop-j
 invariant-loop-j l = record {
-  rising : IsRising (parts_of l.known) l.rising.pairs.items l.rising.residue;
-  room : vec_capacity l.rising.pairs ≡ 64;
-  climbs : ClimbsCuts (parts_of l.known) l.cube l.initial.rising.pairs.items l.initial.rising.residue l.rising.pairs.items l.rising.residue l.j;
+  rising : IsRising (parts_of l.known) l.rising.pairs l.rising.residue;
+  climbs : ClimbsCuts (parts_of l.known) l.cube l.initial.rising.pairs l.initial.rising.residue l.rising.pairs l.rising.residue l.j;
 }

@@ -1,10 +1,6 @@
-use Rattle.std.proofs.Common.{◌≡◌, vec_capacity}
 use Rattle.rows.specs.Known.{parts_of}
 use Rattle.row_bounds.specs.Inner.Climb.{IsRising}
 use Rattle.row_bounds.proofs.buying.climb_scaled.Given as goal
 
 abbrev pub invariant-loop-helpers : goal.invariant-loop-helpers
-invariant-loop-helpers l = record {
-  rising : IsRising (parts_of l.known) l.rising.pairs.items l.rising.residue;
-  room : vec_capacity l.rising.pairs ≡ 64;
-}
+invariant-loop-helpers l = IsRising (parts_of l.known) l.rising.pairs l.rising.residue

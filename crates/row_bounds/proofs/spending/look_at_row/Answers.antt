@@ -1,12 +1,11 @@
-use Rattle.std.proofs.Common.{◌≡◌, ◌∙◌, ◌<◌, ◌^◌, ap, sym, length, get_or, arith}
+use Rattle.std.proofs.Common.{◌≡◌, ◌∙◌, ap, sym, get_or, arith}
 use Rattle.std.specs.Prelude.{slice_index}
 use Rattle.std.specs.List.{All}
 use Rattle.arch_model.specs.Set.{has}
 use Rattle.rows.specs.Row.{IsSized}
-use Rattle.rows.proofs.Activities.{blank, plain, sum_is, sum_small}
-use Rattle.rows.proofs.IntSums.{int_sum_by-step}
+use Rattle.rows.proofs.Activities.{blank, plain}
 use Rattle.row_bounds.specs.Inner.Climb.{quotient_by}
-use Rattle.row_bounds.proofs.SpendLaws.{times_hit, times_past, at_ones, one_is, one_small}
+use Rattle.row_bounds.proofs.SpendLaws.{times_hit, times_past}
 use Rattle.row_bounds.proofs.spending.look_at_row.Goals as goal
 use Rattle.row_bounds.proofs.spending.look_at_row.Goals.{in-Some, in_default}
 
@@ -16,30 +15,18 @@ loop-term-preserved c =
     let i = c.loop-term.term-index in
     let here = c.loop-term-test.true in
     let t = get_or xs i blank in
-    let ones = c.args.cube.now.ones in
-    let r = c.at_one-total.result in
     let sized : All (λ t. IsSized t.coef) xs = rw c.terms-term-items.ensures.terms c.terms-term-items.ensures.row.sized in
-    let few : length xs < 2 ^ 64 = omega arith in
-    let is : r ≡ at_ones ones t = one_is ones xs i r sized here c.has.result (c.has.ensures.member ∙ ap (λ s. has s t.var.0) c.ones-ones.ensures.ones) c.at_one-total.ensures in
-    let small = one_small ones xs i r sized here is in
-    let whole = sum_is _ r i (length xs) c.loop-term.invariant.small small here few in
-    let sum = int_sum_by-step (at_ones ones) xs i blank _ r _ here c.loop-term.invariant.sum is whole in
-    let low = sum_small _ r i (length xs) c.loop-term.invariant.small small here few in
     let same : c.quotient.result ≡ quotient_by (has c.args.cube.now.fixed t.var.0) t.coef (slice_index c.args.residue.now t.var.0) =
     c.quotient.ensures
-    ∙ ap (λ a. quotient_by c.has-in-loop-term.result a (slice_index c.args.residue.now t.var.0)) (plain t.coef (sized i blank here))
-    ∙ ap (λ f. quotient_by f t.coef (slice_index c.args.residue.now t.var.0)) (c.has-in-loop-term.ensures.member ∙ ap (λ s. has s t.var.0) c.fixed-fixed.ensures.fixed) in
+    ∙ ap (λ a. quotient_by c.has.result a (slice_index c.args.residue.now t.var.0)) (plain t.coef (sized i blank here))
+    ∙ ap (λ f. quotient_by f t.coef (slice_index c.args.residue.now t.var.0)) (c.has.ensures.member ∙ ap (λ s. has s t.var.0) c.fixed-fixed.ensures.fixed) in
     elim c.match-quotient.branch [
       | in-Some w ↦ record {
-        sum = sum;
-        small = low;
         least = times_hit c.args.cube.now (slice_index c.args.residue.now) xs i here c.loop-term.times c.match-quotient.times w.in-Some.most c.loop-term.invariant.least (sym same ∙ w.in-Some.is) (w.times-is ∙ w.min-times.ensures);
         few = omega (arith, w.times-is ∙ w.min-times.ensures, c.loop-term.invariant.few);
         helpers = omega (arith, w.helpers-is, c.loop-term.invariant.helpers);
       }
       | in_default w ↦ record {
-        sum = sum;
-        small = low;
         least = times_past c.args.cube.now (slice_index c.args.residue.now) xs i here c.loop-term.times c.match-quotient.times c.loop-term.invariant.least (sym same ∙ w.in_default.is) w.times-is;
         few = omega (arith, w.times-is, c.loop-term.invariant.few);
         helpers = omega (arith, w.helpers-is, c.loop-term.invariant.helpers);
