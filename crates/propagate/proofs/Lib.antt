@@ -1,4 +1,3 @@
 pub mod OneClosure
 pub mod WayLaws
 pub mod Promise
-pub mod FreeMembers

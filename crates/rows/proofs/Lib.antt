@@ -23,3 +23,4 @@ pub mod CubeLaws
 pub mod Chosen
 pub mod VectorLaws
 pub mod RefutedReasons
+pub mod FreeMembers

@@ -1,5 +1,5 @@
 use Rattle.std.proofs.lemmas.Result.{on_ok_weaker}
-use Rattle.propagate.proofs.FreeMembers.{learned}
+use Rattle.rows.proofs.FreeMembers.{learned}
 use Rattle.propagate.proofs.tests.learn.Goals as goal
 
 pub returns : goal.returns

@@ -1,6 +1,6 @@
 use Rattle.std.proofs.Common.{◌∙◌, ap}
 use Rattle.arch_model.specs.Parts.{LibraryParts}
-use Rattle.propagate.proofs.FreeMembers.{free_decides}
+use Rattle.rows.proofs.FreeMembers.{free_decides}
 use Rattle.propagate.proofs.tests.sources.Goals as goal
 
 pub new-requires-4 : goal.new-requires-4
