@@ -7,6 +7,18 @@ ghost use Rattle.propagate.specs.Inner.Way.{Leads, HasRoom, AreBelow};
 
 use rows::{Cube, Known, RowRef, fix_forced};
 
+// Appends a row's name to a trace a number of times.
+fn push_times(steps: &mut Vec<RowRef>, r: RowRef, count: usize)
+    requires room { vec_len steps.old + count ≤ vec_capacity steps.old }
+    ensures items { steps.new.items ≡ steps.old.items ++ replicate count r }
+    ensures len { vec_len steps.new ≡ vec_len steps.old + count }
+    ensures capacity { vec_capacity steps.new ≡ vec_capacity steps.old }
+{
+    for _step in 0..count {
+        steps.push_reserved(r);
+    }
+}
+
 // Fixes all that a row forces, with a step of the trace for each variable; false where the row is
 // refuted.
 fn apply(known: &Known, r: RowRef, cube: &mut Cube, steps: &mut Vec<RowRef>) -> bool
@@ -23,9 +35,7 @@ fn apply(known: &Known, r: RowRef, cube: &mut Cube, steps: &mut Vec<RowRef>) -> 
         Some(count) => count,
         None => return false,
     };
-    for _step in 0..count {
-        steps.push_reserved(r);
-    }
+    push_times(steps, r, count);
     true
 }
 
