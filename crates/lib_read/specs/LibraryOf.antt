@@ -1,6 +1,5 @@
 -- The library of bytes, or its first fault.
-use Rattle.std.specs.Prelude.{codes, ℕ, ◌<◌, ◌≡◌, nat_lt, List, length, Option, Some, None, Result, Ok, Err, IsErr, if◌then◌else◌}
-use Rattle.std.proofs.Common.{lt-ltb}
+use Rattle.std.specs.Prelude.{codes, ℕ, ◌≡◌, nat_lt, List, length, Option, Some, None, Result, Ok, Err, if◌then◌else◌}
 use Rattle.toml.specs.Data.{Data}
 use Rattle.arch_model.specs.Parts.{LibraryParts}
 use Rattle.lib_read.specs.declared.fault.LibClass.TheVariants.{TooLarge, NotToml}
@@ -27,11 +26,6 @@ of_tree (Some top) = judged top (least (faults_of top))
 unfoldable pub library_of : List ℕ → Result LibraryParts LibFault
 library_of bytes =
     if nat_lt 1048576 (length bytes) then Err (fault TooLarge Library 0 (codes "-")) else of_tree (tree_of bytes)
-
--- bytes over the limit are no library
-pub too_large : (bytes : List ℕ) → 1048576 < length bytes → IsErr (library_of bytes)
-unfolding library_of
-too_large bytes h = rw (lt-ltb 1048576 (length bytes) h)
 
 -- an error says nothing of the bytes, or it is their fault
 abbrev pub FaultOf : List ℕ → LibError → Type 0

@@ -51,10 +51,7 @@ fn is_name_byte(c: u8) -> bool
 fn begins_lower(bytes: &[u8]) -> bool
     ensures { result ≡ name.begins_lower bytes.now }
 {
-    match bytes.first() {
-        Some(c) => b'a' <= *c && *c <= b'z',
-        None => false,
-    }
+    bytes.first().is_some_and(|c| b'a' <= *c && *c <= b'z')
 }
 
 // Whether the key's value is a text that can't name a new type.
@@ -82,10 +79,7 @@ fn is_unknown_name(key: &Key, row: &Value, names: &Names, top: &Value) -> bool
 fn is_between(low: u64, high: u64, z: i64) -> bool
     ensures { result ≡ spec.is_between low high z }
 {
-    match u64::try_from(z) {
-        Ok(n) => low <= n && n <= high,
-        Err(_) => false,
-    }
+    u64::try_from(z).is_ok_and(|n| low <= n && n <= high)
 }
 
 // Whether two texts are there and equal.
@@ -105,23 +99,13 @@ fn is_out_of_range(key: &Key, row: &Value, top: &Value) -> bool
     ensures { result ≡ spec.is_out_of_range (view top.now) key.now.meaning key.now.name.now (view row.now) }
 {
     match key.meaning {
-        Meaning::RoleWord => match text_at(row, key.name) {
-            Some(text) => role_of(text).is_none(),
-            None => false,
-        },
-        Meaning::KindWord => match text_at(row, key.name) {
-            Some(text) => kind_of(text).is_none(),
-            None => false,
-        },
+        Meaning::RoleWord => text_at(row, key.name).is_some_and(|text| role_of(text).is_none()),
+        Meaning::KindWord => text_at(row, key.name).is_some_and(|text| kind_of(text).is_none()),
         Meaning::OtherName => are_equal(text_at(row, "a"), text_at(row, key.name)),
-        Meaning::SinkName => match text_at(row, key.name) {
-            Some(text) => !is_sink(top, text),
-            None => false,
-        },
-        Meaning::Number { low, high } => match integer_at(row, key.name) {
-            Some(z) => !is_between(low, high, z),
-            None => false,
-        },
+        Meaning::SinkName => text_at(row, key.name).is_some_and(|text| !is_sink(top, text)),
+        Meaning::Number { low, high } => {
+            integer_at(row, key.name).is_some_and(|z| !is_between(low, high, z))
+        }
         _ => false,
     }
 }
@@ -130,10 +114,7 @@ fn is_out_of_range(key: &Key, row: &Value, top: &Value) -> bool
 fn is_wrong_kind(key: &Key, row: &Value) -> bool
     ensures { result ≡ spec.is_wrong_kind key.now.meaning key.now.name.now (view row.now) }
 {
-    match row.get(key.name) {
-        Some(value) => !fits_meaning(key.meaning, value),
-        None => false,
-    }
+    row.get(key.name).is_some_and(|value| !fits_meaning(key.meaning, value))
 }
 
 // Whether a key of a row has a fault of a class.

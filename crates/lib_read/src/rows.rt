@@ -1,5 +1,7 @@
 // The rows of a document without a fault.
-ghost use Rattle.std.specs.Prelude.{◌≡◌, ◌≤◌, length, map, string_bytes, IfOk, IfSome};
+ghost use Rattle.std.specs.Prelude.{◌≡◌, ◌≤◌, ◌<◌, length, map, position, string_bytes, IfOk, IfSome};
+ghost use Rattle.std.specs.Option.{option_and_then};
+ghost use Rattle.std.specs.Str.{bytes_eq};
 ghost use Rattle.std.specs.List.{All};
 ghost use Rattle.toml.specs.View.{view};
 ghost use Rattle.arch_model.specs.Library.{IsTypeRow};
@@ -35,10 +37,7 @@ pub(crate) fn number_or(absent: u64, row: &Value, key: &str) -> u64
 fn role(row: &Value) -> Role
     ensures { result ≡ (rows.type_row (view row.now)).role }
 {
-    match text_at(row, "role") {
-        Some(text) => role_of(text).unwrap_or(Role::Middle),
-        None => Role::Middle,
-    }
+    text_at(row, "role").and_then(role_of).unwrap_or(Role::Middle)
 }
 
 fn type_row(row: &Value) -> TypeRow
@@ -69,18 +68,21 @@ pub(crate) fn type_rows(alloc: Global, top: &Value) -> Result<Vec<TypeRow>, Memo
     Ok(types)
 }
 
+// The number of the type that the text at a key names, where it names one.
+fn type_number(row: &Value, key: &str, names: &Names) -> Option<usize>
+    ensures place { result ≡ option_and_then (λ text. position (bytes_eq text) names.now)
+        (tree.text_at key.now (view row.now)) }
+    ensures below { IfSome result (λ i. i < length names.now) }
+{
+    names.number(text_at(row, key)?)
+}
+
 // The number of the type that the text at a key names.
 fn type_at(row: &Value, key: &str, names: &Names) -> u32
     requires { length names.now ≤ 64 }
     ensures { result ≡ rows.type_at names.now key.now (view row.now) }
 {
-    match text_at(row, key) {
-        Some(text) => match names.number(text) {
-            Some(i) => i as u32,
-            None => 0,
-        },
-        None => 0,
-    }
+    type_number(row, key, names).unwrap_or(0) as u32
 }
 
 fn link_row(row: &Value, names: &Names) -> LinkRow
@@ -108,15 +110,22 @@ pub(crate) fn link_rows(alloc: Global, top: &Value, names: &Names) -> Result<Vec
     Ok(links)
 }
 
+// The number of the component that the text at a key names, where it names one.
+fn component_number(row: &Value, key: &str, components: &[String]) -> Option<usize>
+    ensures place { result ≡ option_and_then
+        (λ text. position (λ name. bytes_eq text (string_bytes name)) components.now)
+        (tree.text_at key.now (view row.now)) }
+    ensures below { IfSome result (λ i. i < length components.now) }
+{
+    place_of(text_at(row, key)?, components)
+}
+
 // The component that the text at a key names.
 fn component_at(row: &Value, key: &str, components: &[String]) -> CompId
     requires { length components.now ≤ 64 }
     ensures { result ≡ rows.component_at (map string_bytes components.now) key.now (view row.now) }
 {
-    match text_at(row, key) {
-        Some(text) => CompId(place_of(text, components).unwrap_or(0) as u32),
-        None => CompId(0),
-    }
+    CompId(component_number(row, key, components).unwrap_or(0) as u32)
 }
 
 // The least number of a pattern's row.

@@ -210,14 +210,11 @@ static REQUIRE_KEYS: [Key; 2] = [needs!("bound", WEIGHT), needs!("sink", Meaning
 pub(crate) fn role_of(text: &str) -> Option<Role>
     ensures { result ≡ spec.role_of text.now }
 {
-    if text == "source" {
-        Some(Role::Source)
-    } else if text == "middle" {
-        Some(Role::Middle)
-    } else if text == "sink" {
-        Some(Role::Sink)
-    } else {
-        None
+    match text {
+        "source" => Some(Role::Source),
+        "middle" => Some(Role::Middle),
+        "sink" => Some(Role::Sink),
+        _ => None,
     }
 }
 
@@ -225,28 +222,18 @@ pub(crate) fn role_of(text: &str) -> Option<Role>
 pub(crate) fn kind_of(text: &str) -> Option<Kind>
     ensures { result ≡ spec.kind_of text.now }
 {
-    if text == "count" {
-        Some(Kind::Count)
-    } else if text == "indegree" {
-        Some(Kind::InDegree)
-    } else if text == "outdegree" {
-        Some(Kind::OutDegree)
-    } else if text == "in_needs_out" {
-        Some(Kind::InNeedsOut)
-    } else if text == "exclusive" {
-        Some(Kind::Exclusive)
-    } else if text == "implies" {
-        Some(Kind::Implies)
-    } else if text == "forbid" {
-        Some(Kind::Forbid)
-    } else if text == "total_supply" {
-        Some(Kind::TotalSupply)
-    } else if text == "local_supply" {
-        Some(Kind::LocalSupply)
-    } else if text == "cost_cap" {
-        Some(Kind::CostCap)
-    } else {
-        None
+    match text {
+        "count" => Some(Kind::Count),
+        "indegree" => Some(Kind::InDegree),
+        "outdegree" => Some(Kind::OutDegree),
+        "in_needs_out" => Some(Kind::InNeedsOut),
+        "exclusive" => Some(Kind::Exclusive),
+        "implies" => Some(Kind::Implies),
+        "forbid" => Some(Kind::Forbid),
+        "total_supply" => Some(Kind::TotalSupply),
+        "local_supply" => Some(Kind::LocalSupply),
+        "cost_cap" => Some(Kind::CostCap),
+        _ => None,
     }
 }
 
