@@ -87,6 +87,22 @@ module _ {V A : Type 0} (about : V → A) (count : V → ℕ) where
     slot_lent (inl h) odd = let even = (at_home h).0 in absurd (omega (arith, even, odd))
     slot_lent (inr t) odd = t.slot_is
 
+    -- the slot is lent while a seat is in a turn
+    lent_at : (i : ℕ) (v : SeatView A) → Sits r.topic s.views i v → v.in_turn ≡ true → AtHome about count r.topic r.half s ⊎ InTurn about count r.topic r.half s → s.homes ≡ none ∷ []
+    lent_at i v sits turn (inl h) = absurd (true≢false (sym turn ∙ h.nobody i v sits))
+    lent_at i v sits turn (inr t) = t.slot_is
+
+    -- two seats in a turn are one
+    alone_at : (i j : ℕ) (v w : SeatView A) → Sits r.topic s.views i v → Sits r.topic s.views j w → v.in_turn ≡ true → w.in_turn ≡ true → AtHome about count r.topic r.half s ⊎ InTurn about count r.topic r.half s → i ≡ j
+    alone_at i j v w sits sits' turn turn' (inl h) = absurd (true≢false (sym turn ∙ h.nobody i v sits))
+    alone_at i j v w sits sits' turn turn' (inr t) = t.nobody_else i v sits turn ∙ sym (t.nobody_else j w sits' turn')
+
+    pub turn_has_slot : (i : ℕ) (v : SeatView A) → Sits r.topic s.views i v → v.in_turn ≡ true → s.homes ≡ none ∷ []
+    turn_has_slot i v sits turn = lent_at i v sits turn r.stage
+
+    pub turns_are_one : (i j : ℕ) (v w : SeatView A) → Sits r.topic s.views i v → Sits r.topic s.views j w → v.in_turn ≡ true → w.in_turn ≡ true → i ≡ j
+    turns_are_one i j v w sits sits' turn turn' = alone_at i j v w sits sits' turn turn' r.stage
+
     pub gives_rule : RuleHolds about count s
     gives_rule = record {
       topic = r.topic;

@@ -11,14 +11,15 @@ ghost use Rattle.pool_gate.specs.Plays.{Tried, GaveBack};
 use crate::held::Held;
 use crate::view::SeatView;
 
-/// What is kept between any two steps gives the gate's rule. That it is kept is what
-/// `every_step_keeps_the_rule` says, and `atomic_table` makes a step only where it is.
+/// The rule in the form that steps keep, `Between`, gives the form that a reader has to believe,
+/// `RuleHolds`. That `Between` is kept is what `every_step_keeps_the_rule` says, and `atomic_table`
+/// makes a step only where it is.
 pub fn the_rule_holds<V: Held>()
     ensures { (s : State (Option V) (SeatView V.About)) → Between V.about V.count s → RuleHolds V.about V.count s }
 {}
 
-/// A gate opens with the rule, and each kind of step keeps it, whatever the other seats did before:
-/// a try for the turn, the return of a value, a split and a join.
+/// A gate opens with the rule in the form `Between`, and each kind of step keeps that form, whatever
+/// the other seats did before: a try for the turn, the return of a value, a split and a join.
 pub fn every_step_keeps_the_rule<V: Held>()
     ensures opening { (value : V) (seats : ℕ) → Between V.about V.count
         (opening (2 * V.count value ∷ []) (Some value ∷ [])
@@ -36,6 +37,18 @@ pub fn every_step_keeps_the_rule<V: Held>()
     ensures joins { (id other : ℕ) (v w : SeatView V.About) → (v.in_turn ≡ false) × (w.in_turn ≡ false)
         → (v.about ≢ None) × (w.about ≢ None) → Contains v.away w.number
         → Joins (Between V.about V.count) id v other w (joined v w) spent }
+{}
+
+/// A turn changes the slot twice, by exchanges that are no steps of the table: the value is taken out
+/// of the slot, and put back. Each needs the slot to be lent to its seat, and while a seat is in a
+/// turn, the slot is lent and no other seat is in a turn. So what stands in the slot meanwhile is in
+/// no fact of the rule, and no other seat can see it: both exchanges keep the rule as it is.
+pub fn the_slot_is_lent_in_a_turn<V: Held>()
+    ensures lent { (s : State (Option V) (SeatView V.About)) (between : Between V.about V.count s) (i : ℕ)
+        (v : SeatView V.About) → Sits between.topic s.views i v → v.in_turn ≡ true → s.homes ≡ maybe.none ∷ [] }
+    ensures alone { (s : State (Option V) (SeatView V.About)) (between : Between V.about V.count s) (i j : ℕ)
+        (v w : SeatView V.About) → Sits between.topic s.views i v → Sits between.topic s.views j w
+        → v.in_turn ≡ true → w.in_turn ≡ true → i ≡ j }
 {}
 
 /// What the calls promise follows from the rule: a seat that finds the word even finds a value

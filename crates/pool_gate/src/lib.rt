@@ -10,9 +10,11 @@
 //! seat is in a turn; the value stands in the table's one slot. A turn begins with a fetch_or of
 //! the word that finds it even, and ends with the swap that makes it even again. `try_turn` is one
 //! such step and never waits; `turn` tries until it finds the word even, and sleeps between. A rule
-//! about all seats, the word and the slot holds between any two steps (`RuleHolds` in
-//! `specs/Rule.antt`). `laws` says that a gate opens with it, that each kind of step keeps it, and
-//! that it gives what the calls promise.
+//! about all seats, the word and the slot holds between any two steps. It has two forms: `laws` says
+//! that a gate opens with the one in `specs/Between.antt`, that each kind of step keeps that one,
+//! and that what stands in the slot during a turn doesn't touch it; that it gives the other,
+//! `RuleHolds` in `specs/Rule.antt`, which says less and is plainer; and that this gives what the
+//! calls promise.
 //!
 //! Not promised: that anybody gets a turn, fairness, or that a turn is ever given back.
 #![tactic(auto)]
