@@ -6,7 +6,7 @@ use Rattle.outside.specs.Named.{item_of, changed_at}
 use Rattle.std.proofs.lemmas.Iterator.Adapters.{option_map_id}
 use Rattle.std.proofs.lemmas.Slice.Eq.{bytes_eq-Decides}
 use Rattle.outside.specs.Faults.{Rose, ChangesOnly}
-use Rattle.outside.specs.Inner.Counts.{FaultCounts, one_more, after_failed_read, after_failed_write, counts_of, counts_after}
+use Rattle.outside.specs.Counts.{FaultCounts, one_more, after_failed_read, after_failed_write, counts_of, counts_after}
 use Rattle.outside.proofs.NamedLaws.{item_of-place, changed_at-place, item_of-missing, item_of-changed_same, item_of-changed_other, item_of-changed_related}
 
 -- a table of its two parts

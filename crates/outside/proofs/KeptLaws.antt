@@ -6,7 +6,7 @@ use Rattle.outside.specs.declared.counts.Counts.{Counts}
 use Rattle.outside.specs.Faults.{Rose, Stay, ChangesOnly}
 use Rattle.outside.specs.Named.{item_of}
 use Rattle.outside.specs.Told.{Appends, KeptOrEmpty}
-use Rattle.outside.specs.Inner.Counts.{after_failed_read, after_failed_write}
+use Rattle.outside.specs.Counts.{after_failed_read, after_failed_write}
 use Rattle.outside.specs.Inner.Kept.{Kept, KeptFile, told_of, counts_of_kept, read_faults_of, write_faults_of, call_passes, append_passes, with_counts, with_bytes, with_piece, file_put, after_put, after_change, after_fault, after_read, after_fresh, after_append}
 use Rattle.outside.proofs.CountLaws.{by_cases, NoLess, same_counts, read_raised, write_raised, rose, related_apart, differ, OneWith, only_one, one_or_other}
 use Rattle.outside.proofs.NamedLaws.{item_of-changed_same, item_of-changed_other, item_of-changed_kept, item_of-changed_related, item_of-append, item_of-append_new}

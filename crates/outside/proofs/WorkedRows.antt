@@ -3,7 +3,7 @@ use Rattle.std.proofs.Common.{◌≡◌, ℕ, List, [], Option, Some, None, code
 use Rattle.outside.specs.declared.shelf.TheConstants.{LAST_PLACE}
 use Rattle.outside.specs.Faults.{Rose}
 use Rattle.outside.specs.Told.{KeptOrEmpty}
-use Rattle.outside.specs.Inner.Counts.{one_more}
+use Rattle.outside.specs.Counts.{one_more}
 
 last_place : LAST_PLACE ≡ 4294967297
 last_place = refl

@@ -1,6 +1,6 @@
 // The two counts of faults of one name.
 ghost use Rattle.std.specs.Prelude.{◌≡◌};
-ghost use Rattle.outside.specs.Inner.Counts.{after_failed_read, after_failed_write};
+ghost use Rattle.outside.specs.Counts.{after_failed_read, after_failed_write};
 
 /// How many reads and writes failed. Each count stops at 2^64 - 1.
 #[derive(Clone, Copy)]

@@ -4,8 +4,8 @@ ghost use Rattle.std.specs.Prelude.{map, take, string_bytes, IfSome, IfOk};
 ghost use Rattle.std.specs.Prelude.{OnOk, OnErr, MatchResult};
 ghost use Rattle.outside.specs.Faults.{Rose, NeverFall, Stay, ChangesOnly};
 ghost use Rattle.outside.specs.Told.{Finds, Appends, KeptOrEmpty, untold};
-ghost use Rattle.outside.specs.Inner.Counts.{no_faults, counts_after, after_failed_read, after_failed_write, reads_of};
-ghost use Rattle.outside.specs.Inner.Counts.{writes_of};
+ghost use Rattle.outside.specs.Counts.{no_faults, counts_after, after_failed_read, after_failed_write, reads_of};
+ghost use Rattle.outside.specs.Counts.{writes_of};
 
 use crate::fault_counts::FaultCounts;
 use crate::faults::{Failed, Memory};
@@ -26,7 +26,7 @@ pub struct DiskShelf<'a, R> {
 }
 
 impl<'a, R> Model for DiskShelf<'a, R> {
-    ghost use Rattle.outside.specs.Inner.Counts.{FaultCounts};
+    ghost use Rattle.outside.specs.Counts.{FaultCounts};
 
     ghost Value = { FaultCounts };
 

@@ -1,9 +1,9 @@
 // Counts of faults by name.
 ghost use Rattle.std.specs.Prelude.{◌≡◌, ℕ, List, [], ◌∷◌, position, IfOk, OnOk, OnErr};
 ghost use Rattle.std.specs.Str.{bytes_eq};
-ghost use Rattle.outside.specs.Inner.Counts.{after_failed_read, after_failed_write, counts_after};
-ghost use Rattle.outside.specs.Inner.Counts.{counts_with, reads_of};
-ghost use Rattle.outside.specs.Inner.Counts.{writes_of};
+ghost use Rattle.outside.specs.Counts.{after_failed_read, after_failed_write, counts_after};
+ghost use Rattle.outside.specs.Counts.{counts_with, reads_of};
+ghost use Rattle.outside.specs.Counts.{writes_of};
 ghost use Rattle.outside.specs.Faults.{Rose, NeverFall, Stay, ChangesOnly};
 
 use crate::counts::Counts;
@@ -62,7 +62,7 @@ pub struct FaultCounts {
 }
 
 impl Model for FaultCounts {
-    ghost use Rattle.outside.specs.Inner.Counts.{FaultCounts};
+    ghost use Rattle.outside.specs.Counts.{FaultCounts};
 
     ghost Value = { FaultCounts };
 

@@ -1,7 +1,7 @@
 // A file that a shelf in memory keeps.
 ghost use Rattle.std.specs.Prelude.{◌≡◌, true, [], length, IfOk};
 ghost use Rattle.std.specs.Str.{bytes_eq};
-ghost use Rattle.outside.specs.Inner.Counts.{after_failed_read, after_failed_write};
+ghost use Rattle.outside.specs.Counts.{after_failed_read, after_failed_write};
 ghost use Rattle.outside.specs.Inner.Kept.{has_room, with_bytes, with_counts, with_piece, new_file};
 
 use crate::counts::Counts;

@@ -2,7 +2,7 @@
 ghost use Rattle.std.specs.Prelude.{◌≡◌, ◌<◌, ◌≤◌, [], length, take, IfOk, OnOk, OnErr, MatchResult};
 ghost use Rattle.outside.specs.Faults.{Rose};
 ghost use Rattle.outside.specs.Told.{Appends, untold};
-ghost use Rattle.outside.specs.Inner.Counts.{one_more};
+ghost use Rattle.outside.specs.Counts.{one_more};
 
 use crate::faults::Failed;
 use crate::sink::Sink;

@@ -1,7 +1,7 @@
 -- Calls that are made to fail, by their numbers.
 use Rattle.std.specs.Prelude.{ℕ, Bool, not, List, ◌==◌}
 use Rattle.std.specs.List.{list_any}
-use Rattle.outside.specs.Inner.Counts.{one_more}
+use Rattle.outside.specs.Counts.{one_more}
 
 -- the numbers of the calls that fail, from 0, and how many calls were made, up to 2^64 - 1
 pub record FailingCalls : Type 0 where

@@ -2,7 +2,7 @@
 use Rattle.std.specs.Prelude.{ℕ, ◌+◌, Bool, cond, ◌&&◌, false, nat_le, max, List, [], ◌∷◌, ◌++◌, length, Option, is_some, option_map, unwrap_or}
 use Rattle.outside.specs.declared.counts.Counts.{Counts}
 use Rattle.outside.specs.Named.{item_of, changed_at}
-use Rattle.outside.specs.Inner.Counts.{after_failed_read, after_failed_write}
+use Rattle.outside.specs.Counts.{after_failed_read, after_failed_write}
 use Rattle.outside.specs.Inner.Failing.{FailingCalls, passes, after_call}
 
 -- a file that was put: its bytes, the bytes that it has room for, and its own counts of faults

@@ -1,6 +1,6 @@
 -- What a sink in memory holds, and what a write makes of it.
 use Rattle.std.specs.Prelude.{ℕ, ◌+◌, Bool, cond, ◌&&◌, nat_le, List, [], ◌++◌, length}
-use Rattle.outside.specs.Inner.Counts.{one_more}
+use Rattle.outside.specs.Counts.{one_more}
 use Rattle.outside.specs.Inner.Failing.{FailingCalls, passes, after_call}
 
 -- the bytes so far, how many it has room for, the writes that fail, and how many failed, up to 2^64 - 1

@@ -1,5 +1,5 @@
 use Rattle.std.proofs.Common.{◌≡◌, map, take, string_bytes}
-use Rattle.outside.specs.Inner.Counts.{no_faults}
+use Rattle.outside.specs.Counts.{no_faults}
 use Rattle.outside.proofs.disk_shelf.DiskShelf.new.Given as goal
 
 abbrev pub invariant-loop-name : goal.invariant-loop-name

@@ -1,6 +1,6 @@
 use Rattle.std.proofs.Common.{◌≡◌, refl}
 use Rattle.outside.specs.declared.counts.Counts.{Counts}
-use Rattle.outside.specs.Inner.Counts.{after_failed_write}
+use Rattle.outside.specs.Counts.{after_failed_write}
 use Rattle.outside.proofs.CountLaws.{counts_after-own, counts_after-shared, counts-raised, counts_related, counts-alone, only_one, write_raised, rose-writes}
 use Rattle.outside.proofs.fault_counts.FaultCounts.raise_writes.Goals as goal
 

@@ -1,4 +1,4 @@
-use Rattle.outside.specs.Inner.Counts.{after_failed_write}
+use Rattle.outside.specs.Counts.{after_failed_write}
 use Rattle.outside.specs.Inner.Kept.{with_piece}
 use Rattle.outside.proofs.KeptSteps.{placed, both, first_fails, second_fails, appends_at, appends_nowhere, changed_in, fault_in, fault_out, gone_through, held_up}
 use Rattle.outside.proofs.mem_shelf.MemShelf.try_append.Goals as goal

@@ -1,5 +1,5 @@
 use Rattle.std.proofs.Common.{false, []}
-use Rattle.outside.specs.Inner.Counts.{after_failed_write}
+use Rattle.outside.specs.Counts.{after_failed_write}
 use Rattle.outside.specs.Inner.Kept.{with_bytes}
 use Rattle.outside.proofs.KeptSteps.{placed, passes_at, passes_nowhere, changed_in, fault_in, fault_out, gone_through, held_up}
 use Rattle.outside.proofs.mem_shelf.MemShelf.try_fresh.Goals as goal

@@ -1,5 +1,5 @@
 use Rattle.std.proofs.Common.{false, arith}
-use Rattle.outside.specs.Inner.Counts.{after_failed_read}
+use Rattle.outside.specs.Counts.{after_failed_read}
 use Rattle.outside.proofs.KeptSteps.{placed, passes_at, passes_nowhere, read_through, fault_in, fault_out, held_up, read_finds}
 use Rattle.outside.proofs.mem_shelf.MemShelf.try_read.Goals as goal
 
