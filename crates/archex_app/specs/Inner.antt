@@ -1,5 +1,4 @@
 -- What only the code's own contracts cite: no statement that a reader has to believe rests on it.
-pub mod Commands
 pub mod Outcome
 pub mod Reading
 pub mod Narrowing

@@ -1,5 +1,6 @@
 pub mod Status
 pub mod Words
+pub mod Commands
 pub mod Cheapest
 pub mod Report
 pub mod Mass

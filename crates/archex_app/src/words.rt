@@ -2,7 +2,7 @@
 ghost use Rattle.std.specs.Prelude.{◌≡◌, ◌≤◌, length, Ok, Err, Some, None, IfOk, IfErr, OnOk};
 ghost use Rattle.archex_app.specs.Words.{texts, command_of, solve_of, probability_of, empty_word};
 ghost use Rattle.archex_app.specs.Words as spec;
-ghost use Rattle.archex_app.specs.Inner.Commands.{asked};
+ghost use Rattle.archex_app.specs.Commands.{asked};
 
 /// What the words ask for.
 #[derive(Clone, Copy)]

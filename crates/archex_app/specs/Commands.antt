@@ -1,4 +1,4 @@
--- For the code's own contracts: what a command that was read asks for.
+-- What a command that was read asks for.
 use Rattle.archex_app.specs.declared.words.Command.{Command}
 use Rattle.archex_app.specs.declared.words.Command.TheVariants.{Solve, Probability}
 use Rattle.archex_app.specs.Words.{Asked, solve, probability}
