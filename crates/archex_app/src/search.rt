@@ -47,11 +47,12 @@ fn judged(alloc: Global, known: &Known, cube: &Cube, best: Option<Found>) -> Opt
     let problem = known.problem;
     let lib = problem.library();
     let architecture = architecture_of(lib, cube);
+    let found = Found {
+        cost: cost(lib, &architecture),
+        architecture,
+    };
     match study(alloc, problem, &architecture) {
-        Verdict::Meets => Some(Found {
-            cost: cost(lib, &architecture),
-            architecture,
-        }),
+        Verdict::Meets => Some(found),
         Verdict::Breaks(_cut) => best,
     }
 }
