@@ -26,7 +26,7 @@ mod writer;
 pub use fault::{ArchClass, ArchError, ArchFault};
 pub use item::Item;
 pub use reader::{LARGEST, read_architecture};
-pub use writer::{push_architecture, write_architecture};
+pub use writer::write_architecture;
 
 #[cfg(test)]
 mod tests;

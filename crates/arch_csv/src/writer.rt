@@ -53,13 +53,9 @@ fn push_edges(text: &mut String, lib: &Library, edges: &EdgeSet) -> Result<(), M
     Ok(())
 }
 
-/// Appends the text of an architecture's file: a header, the components in order, then the edges
-/// in order. Names need no quotes, so the text is written as it stands.
-pub fn push_architecture(
-    text: &mut String,
-    lib: &Library,
-    arch: &Architecture,
-) -> Result<(), Memory>
+// Appends the text of an architecture's file: a header, the components in order, then the edges
+// in order. Names need no quotes, so the text is written as it stands.
+fn push_architecture(text: &mut String, lib: &Library, arch: &Architecture) -> Result<(), Memory>
     requires { IsArchitecture lib.now arch.now }
     ensures { OnOk result (string_bytes text.new ≡ string_bytes text.old ++ architecture_text lib.now arch.now) }
 {

@@ -1,6 +1,6 @@
 -- From what was read of a file, or wasn't, to what comes of a command.
 use Rattle.std.proofs.Common.{◌≡◌, ℕ, Option, List, [], Ok, Err, Result, refl, sym, ap, subst, ◌∙◌, inl, inr}
-use Rattle.std.specs.Cow.{cow_str_bytes}
+use Rattle.std.specs.Cow.{cow_slice_items}
 use Rattle.std.specs.Prelude.{MatchResult}
 use Rattle.arch_model.specs.Parts.{LibraryParts, ArchitectureParts}
 use Rattle.lib_read.specs.LibraryOf.{library_of}
@@ -21,14 +21,14 @@ use Rattle.archex_app.specs.Inner.Outcome.{IsOutcome, Settles, IsRead, StopsAt, 
 -- of a job over what was read
 pub job_over : {T E : Type 0} (of : List ℕ → Result T E) (ending : Ending) (refusal : E → List ℕ) (told : List ℕ → Option (List ℕ)) (name : List ℕ) (Job : T → Due → Type 0) (x : T) (outcome : Outcome) → IsRead of (told name) (Ok x) → IsOutcome (Job x) outcome → IsOutcome (ReadsAs of ending refusal told name Job) outcome
 job_over {T = T} {E = E} of ending refusal told name Job x outcome read is =
-    let due : Due = ends is.ending [] (cow_str_bytes outcome.text) in
+    let due : Due = ends is.ending [] (cow_slice_items outcome.text) in
     let P : Result T E → Type 0 = λ r. MatchResult r (λ y. Job y due) (λ fault. EndsWith ending (refusal fault) due) in
     record { ending = is.ending; settled = is.settled; ended_so = is.ended_so; due = inr (read.bytes, read.read, subst P (sym read.is) is.due) }
 
-refused : {T E : Type 0} (of : List ℕ → Result T E) (ending : Ending) (refusal : E → List ℕ) (told : List ℕ → Option (List ℕ)) (name : List ℕ) (Job : T → Due → Type 0) (outcome : Outcome) (fault : E) → IsRead of (told name) (Err fault) → cow_str_bytes outcome.text ≡ refusal fault
-    → ReadsAs of ending refusal told name Job (ends ending [] (cow_str_bytes outcome.text))
+refused : {T E : Type 0} (of : List ℕ → Result T E) (ending : Ending) (refusal : E → List ℕ) (told : List ℕ → Option (List ℕ)) (name : List ℕ) (Job : T → Due → Type 0) (outcome : Outcome) (fault : E) → IsRead of (told name) (Err fault) → cow_slice_items outcome.text ≡ refusal fault
+    → ReadsAs of ending refusal told name Job (ends ending [] (cow_slice_items outcome.text))
 refused {T = T} {E = E} of ending refusal told name Job outcome fault read text =
-    let due : Due = ends ending [] (cow_str_bytes outcome.text) in
+    let due : Due = ends ending [] (cow_slice_items outcome.text) in
     let P : Result T E → Type 0 = λ r. MatchResult r (λ y. Job y due) (λ f. EndsWith ending (refusal f) due) in
     inr (read.bytes, read.read, subst P (sym read.is) (ap (ends ending []) text))
 
@@ -97,7 +97,7 @@ mass_unnamed told mid lib arch sink l a stop before between now lib_read stay sa
     settles_over_both told mid lib arch (MassComesTo sink) l a (Err stop) before between now lib_read stay same arch_read stays (stops_at_sink l sink 4 (λ s. EndsWith done (mass_text (enclosure_of l a s))) stop now stops)
 
 pub mass_found : (told mid : List ℕ → Option (List ℕ)) (lib arch sink : List ℕ) (l : LibraryParts) (a : ArchitectureParts) (s : ℕ) (outcome : Outcome) (before between now : List ℕ → ℕ) → IsRead library_of (told lib) (Ok l) → Stay before between
-    → mid arch ≡ told arch → IsRead (architecture_of_bytes l) (mid arch) (Ok a) → Stay between now → IsSinkNamed l sink s → outcome.status ≡ status_of done → cow_str_bytes outcome.text ≡ mass_text (enclosure_of l a s)
+    → mid arch ≡ told arch → IsRead (architecture_of_bytes l) (mid arch) (Ok a) → Stay between now → IsSinkNamed l sink s → outcome.status ≡ status_of done → cow_slice_items outcome.text ≡ mass_text (enclosure_of l a s)
     → Settles (CommandComesTo told (probability lib arch sink)) (Ok outcome) before now
 mass_found told mid lib arch sink l a s outcome before between now lib_read stay same arch_read stays named ended text =
     let is : IsOutcome (MassComesTo sink l a) outcome = record { ending = done; settled = tt; ended_so = ended; due = inl (s, named, ap (ends done []) text) } in

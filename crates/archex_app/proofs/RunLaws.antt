@@ -2,7 +2,7 @@
 use Rattle.std.proofs.Common.{◌≡◌, ◌≢◌, ℕ, ◌<◌, ◌≤◌, true, false, nat_lt, Option, Some, None, List, [], take, length, Ok, Err, Result, IfSome, refl, sym, ap, subst, ◌∙◌, arith, inl, inr, ◌⊎◌}
 use Rattle.std.proofs.lemmas.List.{take_all, length-take-le}
 use Rattle.std.proofs.lemmas.Bool.{ltb-true, ltb-false, lt-ltb}
-use Rattle.std.specs.Cow.{cow_str_bytes}
+use Rattle.std.specs.Cow.{cow_slice_items}
 use Rattle.std.specs.Prelude.{Contains}
 use Rattle.arch_model.specs.Parts.{LibraryParts, ArchitectureParts}
 use Rattle.arch_model.proofs.Members.{bool_cases}
@@ -110,9 +110,9 @@ ends_printed Comes ending text due status before now settled is comes told reads
 ends_so : (Comes : Due → Type 0) (r : Result Outcome Stop) (status : Status) (before now : Seen) → Settles Comes r before.reads now.reads → Finishes r status before.printed now.printed before.prints now.prints
     → ((name : List ℕ) → now.told name ≡ before.told name) → Stay before.writes now.writes → Ended Comes status before now
 ends_so Comes (Ok outcome) status before now settles finishes told writes =
-    ends_printed Comes settles.0.ending (cow_str_bytes outcome.text) outcome.status status before now settles.0.settled settles.0.ended_so settles.0.due told settles.1 writes finishes
+    ends_printed Comes settles.0.ending (cow_slice_items outcome.text) outcome.status status before now settles.0.settled settles.0.ended_so settles.0.due told settles.1 writes finishes
 ends_so Comes (Err (Refused outcome)) status before now settles finishes told writes =
-    ends_printed Comes settles.0.ending (cow_str_bytes outcome.text) outcome.status status before now settles.0.settled settles.0.ended_so settles.0.due told settles.1 writes finishes
+    ends_printed Comes settles.0.ending (cow_slice_items outcome.text) outcome.status status before now settles.0.settled settles.0.ended_so settles.0.due told settles.1 writes finishes
 ends_so Comes (Err Unread) status before now settles finishes told writes = inr (inl (record {
   ended_so = finishes.0;
   name = settles.0;

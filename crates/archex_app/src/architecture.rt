@@ -15,7 +15,7 @@ use arch_csv::{ArchError, read_architecture};
 use arch_model::{Architecture, Library};
 use outside::Shelf;
 use std::alloc::Global;
-use std::borrow::CowStr;
+use std::borrow::CowSlice;
 
 /// The architecture of a library under a name. Bytes that are none are refused for their first
 /// fault.
@@ -44,7 +44,7 @@ pub fn architecture_under<F: Shelf>(
             let text = architecture_refusal(alloc, &fault)?;
             Err(Stop::Refused(Outcome {
                 status: Status::ARCHITECTURE_REFUSED,
-                text: CowStr::Owned(text),
+                text: CowSlice::Owned(text.into_bytes()),
             }))
         }
         Err(ArchError::Memory) => Err(Stop::NoMemory),

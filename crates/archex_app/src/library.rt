@@ -14,7 +14,7 @@ use arch_model::Library;
 use lib_read::{LibError, read_library};
 use outside::Shelf;
 use std::alloc::Global;
-use std::borrow::CowStr;
+use std::borrow::CowSlice;
 
 /// The library under a name. Bytes that are none are refused for their first fault.
 pub fn library_under<F: Shelf>(alloc: Global, shelf: &mut F, name: &str) -> Result<Library, Stop>
@@ -34,7 +34,7 @@ pub fn library_under<F: Shelf>(alloc: Global, shelf: &mut F, name: &str) -> Resu
             let text = refusal(alloc, &fault)?;
             Err(Stop::Refused(Outcome {
                 status: Status::LIBRARY_REFUSED,
-                text: CowStr::Owned(text),
+                text: CowSlice::Owned(text.into_bytes()),
             }))
         }
         Err(LibError::Memory) => Err(Stop::NoMemory),

@@ -9,15 +9,15 @@ use crate::reading::ReadError;
 use crate::status::Status;
 use outside::Sink;
 use std::alloc::{AllocError, Global};
-use std::borrow::CowStr;
+use std::borrow::CowSlice;
 
 /// What a command comes to.
 #[derive(Drop)]
 pub struct Outcome {
     /// How the run ends, once the text is printed.
     pub status: Status,
-    /// The text that is due on the sink.
-    pub text: CowStr<'static, Global>,
+    /// The bytes that are due on the sink.
+    pub text: CowSlice<'static, u8, Global>,
 }
 
 /// Why a command stops before its job is done.
@@ -73,7 +73,7 @@ pub fn finish<O: Sink>(out: &mut O, outcome: Result<Outcome, Stop>) -> Status
 {
     match outcome {
         Ok(outcome) | Err(Stop::Refused(outcome)) => {
-            print(out, outcome.text.as_bytes(), outcome.status)
+            print(out, outcome.text.as_slice(), outcome.status)
         }
         Err(Stop::Unread) => Status::READ_FAULT,
         Err(Stop::NoMemory) => Status::NO_MEMORY,

@@ -16,7 +16,7 @@ use arch_model::Memory;
 use fail_mass::enclose;
 use outside::{Shelf, Sink};
 use std::alloc::Global;
-use std::borrow::CowStr;
+use std::borrow::CowSlice;
 
 /// The place of the sink's name among the words.
 const SINK_PLACE: u32 = 4;
@@ -52,7 +52,7 @@ fn come_to<F: Shelf>(
     let text = mass_text(alloc, enclose(&library, &architecture, component))?;
     Ok(Outcome {
         status: Status::DONE,
-        text: CowStr::Owned(text),
+        text: CowSlice::Owned(text.into_bytes()),
     })
 }
 

@@ -1,10 +1,11 @@
 // The report of an architecture: its cost, the text of its file, and what its sinks weigh.
-ghost use Rattle.std.specs.Prelude.{◌≡◌, ◌<◌, ◌++◌, length, IfOk, OnOk, string_bytes};
+ghost use Rattle.std.specs.Prelude.{◌≡◌, ◌<◌, ◌++◌, codes, length, IfOk, OnOk, string_bytes};
+ghost use Rattle.std.specs.Fmt.{decimal};
 ghost use Rattle.std.specs.List.{flat_map};
 ghost use Rattle.arch_model.specs.Architecture.{IsArchitecture, cost_of};
 ghost use Rattle.archex_app.specs.Report.{weight_line, optimal_text};
 
-use arch_csv::push_architecture;
+use arch_csv::write_architecture;
 use arch_model::{Architecture, Library, Memory, Requirement};
 use sink_weight::weight;
 use std::alloc::Global;
@@ -42,20 +43,42 @@ fn push_weights(text: &mut String, lib: &Library, architecture: &Architecture) -
     Ok(())
 }
 
+// The lines of all requirements.
+fn weight_lines(alloc: Global, lib: &Library, architecture: &Architecture) -> Result<String, Memory>
+    requires { IsArchitecture lib.now architecture.now }
+    ensures { IfOk result (λ text. string_bytes text
+        ≡ flat_map (weight_line lib.now architecture.now) lib.now.requirements) }
+{
+    let mut text = String::new(alloc);
+    push_weights(&mut text, lib, architecture)?;
+    Ok(text)
+}
+
+// The first lines: how the search ended, and the cost.
+fn first_lines(alloc: Global, cost: u64) -> Result<String, Memory>
+    ensures { IfOk result (λ text. string_bytes text
+        ≡ codes "status optimal\ncost " ++ decimal cost ++ codes "\n") }
+{
+    let mut text = String::new(alloc);
+    write!(text, "status optimal\ncost {cost}\n")?;
+    Ok(text)
+}
+
 /// The report of an architecture that was found to be cheapest.
 pub fn optimal_report(
     alloc: Global,
     lib: &Library,
     cost: u64,
     architecture: &Architecture,
-) -> Result<String, Memory>
+) -> Result<Vec<u8>, Memory>
     requires architecture { IsArchitecture lib.now architecture.now }
     requires cost { cost ≡ cost_of lib.now architecture.now }
-    ensures { IfOk result (λ text. string_bytes text ≡ optimal_text lib.now architecture.now) }
+    ensures { IfOk result (λ report. report.items ≡ optimal_text lib.now architecture.now) }
 {
-    let mut text = String::new(alloc);
-    write!(text, "status optimal\ncost {cost}\n")?;
-    push_architecture(&mut text, lib, architecture)?;
-    push_weights(&mut text, lib, architecture)?;
-    Ok(text)
+    let first = first_lines(alloc, cost)?;
+    let mut report = first.into_bytes();
+    write_architecture(lib, architecture, &mut report)?;
+    let weights = weight_lines(alloc, lib, architecture)?;
+    report.extend_from_slice(weights.as_bytes())?;
+    Ok(report)
 }

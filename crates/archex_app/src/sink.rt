@@ -8,7 +8,7 @@ use crate::refusal::words_line;
 use crate::status::Status;
 use arch_model::{CompId, Library, Role};
 use std::alloc::Global;
-use std::borrow::CowStr;
+use std::borrow::CowSlice;
 use template::find_component;
 
 // The component of role sink of that name; none where the name isn't a sink's.
@@ -35,7 +35,7 @@ pub fn sink_named(alloc: Global, lib: &Library, name: &str, place: u32) -> Resul
             let text = String::from_str(alloc, words_line(place).as_str())?;
             Err(Stop::Refused(Outcome {
                 status: Status::WORDS_REFUSED,
-                text: CowStr::Owned(text),
+                text: CowSlice::Owned(text.into_bytes()),
             }))
         }
     }

@@ -15,7 +15,7 @@ use arch_model::{Library, Memory};
 use binary_program::problem_of;
 use outside::{Shelf, Sink};
 use std::alloc::Global;
-use std::borrow::CowStr;
+use std::borrow::CowSlice;
 
 // The report of a cheapest architecture, or that there is none.
 fn searched(alloc: Global, lib: Library) -> Result<Outcome, Memory>
@@ -25,15 +25,15 @@ fn searched(alloc: Global, lib: Library) -> Result<Outcome, Memory>
     let cheapest = cheapest(alloc, &problem)?;
     match cheapest {
         Some(best) => {
-            let text = optimal_report(alloc, problem.library(), best.cost, &best.architecture)?;
+            let report = optimal_report(alloc, problem.library(), best.cost, &best.architecture)?;
             Ok(Outcome {
                 status: Status::DONE,
-                text: CowStr::Owned(text),
+                text: CowSlice::Owned(report),
             })
         }
         None => Ok(Outcome {
             status: Status::INFEASIBLE,
-            text: CowStr::Borrowed("status infeasible\n"),
+            text: CowSlice::Borrowed(b"status infeasible\n"),
         }),
     }
 }

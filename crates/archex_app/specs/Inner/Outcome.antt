@@ -1,6 +1,6 @@
 -- For the code's own contracts: what a command comes to before anything is printed.
 use Rattle.std.specs.Prelude.{◌≡◌, ℕ, Option, List, [], ◌∷◌, ◌++◌, ◌⊎◌, Result, Ok, Err, IfSome}
-use Rattle.std.specs.Cow.{cow_str_bytes}
+use Rattle.std.specs.Cow.{cow_slice_items}
 use Rattle.outside.specs.Faults.{Rose, Stay, ChangesOnly}
 use Rattle.outside.specs.Told.{Appends}
 use Rattle.arch_model.specs.Parts.{LibraryParts}
@@ -25,7 +25,7 @@ pub record IsOutcome (Comes : Due → Type 0) (outcome : Outcome) : Type 0 where
   pub ending : Ending
   pub settled : IsSettled ending
   pub ended_so : outcome.status ≡ status_of ending
-  pub due : Comes (ends ending [] (cow_str_bytes outcome.text))
+  pub due : Comes (ends ending [] (cow_slice_items outcome.text))
 
 -- what comes of a command's reads and its job, over the read counts before and after
 abbrev pub Settles : (Due → Type 0) → Result Outcome Stop → (List ℕ → ℕ) → (List ℕ → ℕ) → Type 0
@@ -42,8 +42,8 @@ Printed due text status before now faults_before faults_now =
 
 -- how a run ends with what came
 abbrev pub Finishes : Result Outcome Stop → Status → Option (List ℕ) → Option (List ℕ) → ℕ → ℕ → Type 0
-Finishes (Ok outcome) status before now faults_before faults_now = Printed outcome.status (cow_str_bytes outcome.text) status before now faults_before faults_now
-Finishes (Err (Refused outcome)) status before now faults_before faults_now = Printed outcome.status (cow_str_bytes outcome.text) status before now faults_before faults_now
+Finishes (Ok outcome) status before now faults_before faults_now = Printed outcome.status (cow_slice_items outcome.text) status before now faults_before faults_now
+Finishes (Err (Refused outcome)) status before now faults_before faults_now = Printed outcome.status (cow_slice_items outcome.text) status before now faults_before faults_now
 Finishes (Err Unread) status before now faults_before faults_now = (status ≡ status_of read_fault) × (now ≡ before) × (faults_now ≡ faults_before)
 Finishes (Err NoMemory) status before now faults_before faults_now = (status ≡ status_of no_memory) × (now ≡ before) × (faults_now ≡ faults_before)
 
@@ -56,13 +56,13 @@ pub record IsRead {T E : Type 0} (of : List ℕ → Result T E) (told : Option (
 -- why a file wasn't read as something: its refusal is due for its fault, over the read counts before and after
 abbrev pub StopsAt : {T E : Type 0} → (List ℕ → Result T E) → Ending → (E → List ℕ) → Option (List ℕ) → List ℕ → Stop → (List ℕ → ℕ) → (List ℕ → ℕ) → Type 0
 StopsAt {E = E} of ending refusal told name (Refused outcome) before now =
-    ((fault : E) × IsRead of told (Err fault) × (outcome.status ≡ status_of ending) × (cow_str_bytes outcome.text ≡ refusal fault)) × Stay before now
+    ((fault : E) × IsRead of told (Err fault) × (outcome.status ≡ status_of ending) × (cow_slice_items outcome.text ≡ refusal fault)) × Stay before now
 StopsAt of ending refusal told name Unread before now = Rose (before name) (now name) × ChangesOnly (name ∷ []) before now
 StopsAt of ending refusal told name NoMemory before now = Stay before now
 
 -- why there is no sink of a name: the words are refused for the name's place, or there was no memory
 abbrev pub StopsAtSink : LibraryParts → List ℕ → ℕ → Stop → Type 0
 StopsAtSink lib name place (Refused outcome) =
-    ((c : ℕ) → IsSinkNamed lib name c → ⊥) × (outcome.status ≡ status_of words_refused) × (cow_str_bytes outcome.text ≡ refused_words_text place)
+    ((c : ℕ) → IsSinkNamed lib name c → ⊥) × (outcome.status ≡ status_of words_refused) × (cow_slice_items outcome.text ≡ refused_words_text place)
 StopsAtSink lib name place Unread = ⊥
 StopsAtSink lib name place NoMemory = Unit {0}

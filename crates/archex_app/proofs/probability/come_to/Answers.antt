@@ -25,4 +25,4 @@ returns-in_err-component-clause-settles g c =
 pub returns-clause-settles : goal.returns-clause-settles
 returns-clause-settles g c =
     mass_found (g.F.Shelf.told c.args.shelf.now) (g.F.Shelf.told c.library_under.new.shelf) c.args.lib.now c.args.arch.now c.args.sink.now c.in_ok-library.library c.in_ok-architecture.architecture c.in_ok-component.component.0 _ _ _ _ c.in_ok-library.ensures.library c.in_ok-library.ensures.reads_stay
-    (c.in_ok-library.ensures.told_stays c.args.arch.now) c.in_ok-architecture.ensures.architecture c.in_ok-architecture.ensures.reads_stay c.in_ok-component.ensures.sink refl (c.in_ok-text.ensures ∙ ap mass_text c.enclose.ensures.exact)
+    (c.in_ok-library.ensures.told_stays c.args.arch.now) c.in_ok-architecture.ensures.architecture c.in_ok-architecture.ensures.reads_stay c.in_ok-component.ensures.sink refl (ap (λ v. v.items) c.into_bytes.ensures.value ∙ c.in_ok-text.ensures ∙ ap mass_text c.enclose.ensures.exact)

@@ -20,7 +20,7 @@ returns-in-Some c =
       due = inl (
         c.in-Some.best.architecture,
         subst (λ (lib : LibraryParts). IsCheapest lib c.in-Some.best.architecture) same (subst (λ (o : Option Found). IfSome o (λ found. IsCheapest c.in_ok-problem.problem.library found.architecture)) c.in-Some.is c.in_ok-cheapest.ensures.cheapest),
-        ap (ends done []) (c.in_ok-text-in-Some.ensures ∙ ap (λ (lib : LibraryParts). optimal_text lib c.in-Some.best.architecture) (c.library.ensures.library ∙ same)),
+        ap (ends done []) (c.in_ok-report-in-Some.ensures ∙ ap (λ (lib : LibraryParts). optimal_text lib c.in-Some.best.architecture) (c.library.ensures.library ∙ same)),
       );
     }
 
