@@ -4,7 +4,6 @@ pub mod Beyond
 pub mod Places
 pub mod Starts
 pub mod Steps
-pub mod Loops
 pub mod Listed
 pub mod Ordered
 pub mod Pruning

@@ -12,18 +12,13 @@ use Rattle.arch_model.specs.Architecture.{IsArchitecture}
 use Rattle.arch_model.specs.Member.{is_in}
 use Rattle.arch_model.specs.Path.{is_source, is_up, live_edges, joins, LeadsTo, IsPath, Parts}
 use Rattle.arch_model.proofs.Members.{and_left, and_right, and_both, or_left, or_right, or_cases, not_of, false_if, bool_cases}
-use Rattle.arch_model.proofs.Present.{any_present-mono}
-use Rattle.arch_model.proofs.Reaching.{walk_or_path, joins_head}
+use Rattle.arch_model.proofs.Present.{any_chosen, any_present-mono}
+use Rattle.arch_model.proofs.Reaching.{walk_or_path, joins_head, joins_less, leads_less}
 use Rattle.arch_model.proofs.Walks.{walk_up}
 use Rattle.cut_sets.specs.declared.useful.Sides.{Sides}
 use Rattle.cut_sets.specs.Inner.Useful.{LeadsFrom, IsFar, IsNear, AreSides, is_passed}
 
 -- where an item passes a test only by the one more that is chosen, it is that one
-any_chosen : (q : Edge → Bool) (p : ℕ → Bool) (n : ℕ) (x : Edge) (xs : List Edge)
-    → list_any q (map (λ e. e.1) (filter (λ e. p e.0) (enumerate_from n (x ∷ xs)))) ≡ ((p n && q x) || list_any q (map (λ e. e.1) (filter (λ e. p e.0) (enumerate_from (n + 1) xs))))
-any_chosen q p n x xs = elim (p n) as (λ b. list_any q (map (λ (e : ℕ × Edge). e.1) (cond b ((n, x) ∷ filter (λ (e : ℕ × Edge). p e.0) (enumerate_from (n + 1) xs)) (filter (λ (e : ℕ × Edge). p e.0) (enumerate_from (n + 1) xs))))
-    ≡ ((b && q x) || list_any q (map (λ (e : ℕ × Edge). e.1) (filter (λ (e : ℕ × Edge). p e.0) (enumerate_from (n + 1) xs))))) [ true ↦ refl | false ↦ refl ]
-
 the_one : (q : Edge → Bool) (p more : ℕ → Bool) (k n : ℕ) (xs : List Edge) → ((j : ℕ) → j ≢ k → more j ≡ true → p j ≡ true)
     → list_any q (map (λ e. e.1) (filter (λ e. more e.0) (enumerate_from n xs))) ≡ true → list_any q (map (λ e. e.1) (filter (λ e. p e.0) (enumerate_from n xs))) ≡ false
     → (x : Edge) × (slice_get xs (k - n) ≡ Some x) × (q x ≡ true) × (n ≤ k)
@@ -49,20 +44,11 @@ module _ (lib : LibraryParts) (arch : ArchitectureParts) (fits : IsArchitecture 
   n = length lib.components
 
   -- fewer failures
-  joins_less : (f g : ℕ → Bool) → ((v : ℕ) → f v ≡ true → g v ≡ true) → (b c : ℕ) → joins (live_edges lib arch g) b c ≡ true → joins (live_edges lib arch f) b c ≡ true
-  joins_less f g wider b c j = any_present-mono (λ (e : Edge). nat_eq e.tail.0 b && nat_eq e.head.0 c) (λ e. has arch.edges e && not (g (n + e))) (λ e. has arch.edges e && not (f (n + e))) lib.edges
-      (λ e h. and_both (has arch.edges e) (not (f (n + e))) (and_left (has arch.edges e) (not (g (n + e))) h) (not_of (g (n + e)) (f (n + e)) (wider (n + e)) (and_right (has arch.edges e) (not (g (n + e))) h))) j
-
-  leads_less : (f g : ℕ → Bool) → ((v : ℕ) → f v ≡ true → g v ≡ true) → (p : List ℕ) → LeadsTo lib arch sink g p → LeadsTo lib arch sink f p
-  leads_less f g wider [] h = h
-  leads_less f g wider (c ∷ []) h = (not_of (g c) (f c) (wider c) h.0, h.1)
-  leads_less f g wider (c ∷ d ∷ rest) h = (not_of (g c) (f c) (wider c) h.0, joins_less f g wider c d h.1, leads_less f g wider (d ∷ rest) h.2)
-
   walk_less : (f g : ℕ → Bool) → ((v : ℕ) → f v ≡ true → g v ≡ true) → (c : ℕ) (r : List ℕ) → LeadsFrom lib arch g c r → LeadsFrom lib arch f c r
   walk_less f g wider c [] w = (and_both (has arch.comps c) (not (f c)) (and_left (has arch.comps c) (not (g c)) w.0) (not_of (g c) (f c) (wider c) (and_right (has arch.comps c) (not (g c)) w.0)), w.1)
   walk_less f g wider c (b ∷ r) w = (
     and_both (has arch.comps c) (not (f c)) (and_left (has arch.comps c) (not (g c)) w.0) (not_of (g c) (f c) (wider c) (and_right (has arch.comps c) (not (g c)) w.0)),
-    joins_less f g wider b c w.1,
+    joins_less lib arch f g (λ e here. wider (n + e)) b c w.1,
     walk_less f g wider b r w.2,
   )
 
@@ -107,11 +93,11 @@ module _ (lib : LibraryParts) (arch : ArchitectureParts) (fits : IsArchitecture 
     module _ (wide : ℕ → Bool) (wider : (v : ℕ) → f v ≡ true → wide v ≡ true) where
       not_near : (c : ℕ) (r : List ℕ) → LeadsFrom lib arch f c r → IsNear lib arch sink wide c → ⊥
       not_near c r w near = elim near [
-        | inl l ↦ uncut c r l.0 w (leads_less f wide wider (c ∷ l.0) l.1)
+        | inl l ↦ uncut c r l.0 w (leads_less lib arch f wide (λ e here. wider (n + e)) sink (c ∷ l.0) (λ v among. wider v) l.1)
         | inr l ↦ uncut c r (l.0 ∷ l.1) w (
           and_right (has arch.comps c) (not (f c)) (walk_up (is_source lib) (is_up arch f) (joins (live_edges lib arch f)) c r w),
-          joins_less f wide wider c l.0 l.3,
-          leads_less f wide wider (l.0 ∷ l.1) l.2,
+          joins_less lib arch f wide (λ e here. wider (n + e)) c l.0 l.3,
+          leads_less lib arch f wide (λ e here. wider (n + e)) sink (l.0 ∷ l.1) (λ v among. wider v) l.2,
         )
       ]
 
@@ -122,7 +108,7 @@ module _ (lib : LibraryParts) (arch : ArchitectureParts) (fits : IsArchitecture 
             let before = walk_less f wide wider w.0 w.1 w.2 in
             uncut w.0 w.1 (c ∷ r) before (
               and_right (has arch.comps w.0) (not (f w.0)) (walk_up (is_source lib) (is_up arch f) (joins (live_edges lib arch f)) w.0 w.1 before),
-              joins_less f wide wider w.0 c w.3,
+              joins_less lib arch f wide (λ e here. wider (n + e)) w.0 c w.3,
               h,
             )
       ]
@@ -132,7 +118,7 @@ module _ (lib : LibraryParts) (arch : ArchitectureParts) (fits : IsArchitecture 
         has_before c r w = right.before c r (walk_less chosen f within c r w) (λ x i. let t = walk_at f c r w x i in not_near x t.0 t.1)
 
         has_after : (c : ℕ) (r : List ℕ) → LeadsTo lib arch sink f (c ∷ r) → has s.after c ≡ true
-        has_after c r h = right.after c r (leads_less chosen f within (c ∷ r) h) (λ x i. let t = leads_at f c r h x i in not_far x t.0 t.1)
+        has_after c r h = right.after c r (leads_less lib arch chosen f (λ e here. within (n + e)) sink (c ∷ r) (λ v among. within v) h) (λ x i. let t = leads_at f c r h x i in not_far x t.0 t.1)
 
         -- all but one of the failed
         module _ (c : ℕ) (less : ℕ → Bool) (but_one : (v : ℕ) → v ≢ c → less v ≡ f v) where
@@ -153,7 +139,7 @@ module _ (lib : LibraryParts) (arch : ArchitectureParts) (fits : IsArchitecture 
             to_it v (b ∷ r) w = elim (to_it b r w.2) [
               | inl found ↦ inl found
               | inr before ↦ elim (eqb_tells v c) [
-                | inl same ↦ inl (or_right (is_source lib c) (has s.entered c) (right.entered b c (has_before b r before) (joins_less chosen f within b c (subst (λ x. joins (live_edges lib arch f) b x ≡ true) same.1 (same_joins b v w.1)))))
+                | inl same ↦ inl (or_right (is_source lib c) (has s.entered c) (right.entered b c (has_before b r before) (joins_less lib arch chosen f (λ e here. within (n + e)) b c (subst (λ x. joins (live_edges lib arch f) b x ≡ true) same.1 (same_joins b v w.1)))))
                 | inr other ↦ inr (same_up v other.1 w.0, same_joins b v w.1, before)
               ]
             ]
@@ -166,7 +152,7 @@ module _ (lib : LibraryParts) (arch : ArchitectureParts) (fits : IsArchitecture 
             from_it v (d ∷ r) h = elim (from_it d r h.2) [
               | inl found ↦ inl found
               | inr later ↦ elim (eqb_tells v c) [
-                | inl same ↦ inl (or_right (nat_eq c sink) (has s.left c) (right.left c d (has_after d r later) (joins_less chosen f within c d (subst (λ x. joins (live_edges lib arch f) x d ≡ true) same.1 (same_joins v d h.1)))))
+                | inl same ↦ inl (or_right (nat_eq c sink) (has s.left c) (right.left c d (has_after d r later) (joins_less lib arch chosen f (λ e here. within (n + e)) c d (subst (λ x. joins (live_edges lib arch f) x d ≡ true) same.1 (same_joins v d h.1)))))
                 | inr other ↦ inr (ap not (sym (but_one v other.1)) ∙ h.0, same_joins v d h.1, later)
               ]
             ]

@@ -20,9 +20,8 @@ use Rattle.arch_model.proofs.Sublists.{map_all, members_inside}
 use Rattle.arch_model.proofs.Reaching.{parts_exact, walk_or_path, joins_head, joins_tail}
 use Rattle.arch_model.proofs.Walks.{walk_up}
 use Rattle.arch_model.proofs.CutSets.{passes}
-use Rattle.paths.specs.declared.links.Links.{Links}
 use Rattle.paths.proofs.LinkLaws.{links_beside}
-use Rattle.paths.specs.Links.{AreLinks}
+use Rattle.paths.specs.Links.{LinksParts, AreLinks}
 use Rattle.cut_sets.specs.declared.useful.Sides.{Sides}
 use Rattle.cut_sets.specs.Inner.Upcoming.{NetworkParts, PlaceParts, IsNetwork, IsPlace, is_live_cut_set, candidates_from, sets_beyond, IsFirstUseful}
 use Rattle.cut_sets.specs.Inner.Useful.{LeadsFrom, IsFar, IsNear, AreSides, is_passed, IsUseless}
@@ -190,20 +189,20 @@ module _ (lib : LibraryParts) (arch : ArchitectureParts) (fits : IsArchitecture 
         or_none true = refl
         or_none false = refl
 
-  pub links_past_near : (links : Links) → AreLinks lib arch (has chosen) links → (above before_above near past_near : Set)
+  pub links_past_near : (table : LinksParts) → AreLinks lib arch (has chosen) table → (above before_above near past_near : Set)
       → ((c : ℕ) → IsTrue (has above c) ↔ ((r : List ℕ) × LeadsTo lib arch sink (has wide) (c ∷ r)))
       → ((c : ℕ) → IsTrue (has before_above c) ↔ ((d : ℕ) × IsTrue (has above d) × IsTrue (joins (live_edges lib arch (has wide)) c d)))
-      → near ≡ union above before_above → ((v : ℕ) → has past_near v ≡ (has chosen v || is_in (members_below near COMPONENTS) v)) → AreLinks lib arch (has past_near) links
-  links_past_near links right above before_above near past_near above_is before_is near_is past_is =
-      links_beside lib arch (has chosen) (has past_near) links right
+      → near ≡ union above before_above → ((v : ℕ) → has past_near v ≡ (has chosen v || is_in (members_below near COMPONENTS) v)) → AreLinks lib arch (has past_near) table
+  links_past_near table right above before_above near past_near above_is before_is near_is past_is =
+      links_beside lib arch (has chosen) (has past_near) table right
       (past_same (IsNear lib arch sink (has wide)) near past_near (near_of above before_above near above_is before_is near_is) near_low past_is)
 
-  pub links_past_far : (links : Links) → AreLinks lib arch (has chosen) links → (reached after_reached far past_far : Set)
+  pub links_past_far : (table : LinksParts) → AreLinks lib arch (has chosen) table → (reached after_reached far past_far : Set)
       → ((c : ℕ) → IsTrue (has reached c) ↔ ((p : List ℕ) × IsPath lib arch c (has wide) p))
       → ((c : ℕ) → IsTrue (has after_reached c) ↔ ((b : ℕ) × IsTrue (has reached b) × IsTrue (joins (live_edges lib arch (has wide)) b c)))
-      → far ≡ union reached after_reached → ((v : ℕ) → has past_far v ≡ (has chosen v || is_in (members_below far COMPONENTS) v)) → AreLinks lib arch (has past_far) links
-  links_past_far links right reached after_reached far past_far reached_is after_is far_is past_is =
-      links_beside lib arch (has chosen) (has past_far) links right
+      → far ≡ union reached after_reached → ((v : ℕ) → has past_far v ≡ (has chosen v || is_in (members_below far COMPONENTS) v)) → AreLinks lib arch (has past_far) table
+  links_past_far table right reached after_reached far past_far reached_is after_is far_is past_is =
+      links_beside lib arch (has chosen) (has past_far) table right
       (past_same (IsFar lib arch (has wide)) far past_far (far_of reached after_reached far reached_is after_is far_is) far_low past_is)
 
   module _ (reached after_reached far above before_above near past_near past_far : Set) (s : Sides)

@@ -1,5 +1,5 @@
 -- What a search over rows finds: the paths, and what leads to a sink.
-use Rattle.std.proofs.Common.{◌≡◌, ℕ, ◌<◌, ◌≤◌, true, not, ◌&&◌, ◌||◌, nat_eq, List, [], ◌∷◌, length, sym, ap, ◌∙◌, subst, arith, inl, inr}
+use Rattle.std.proofs.Common.{◌≡◌, ℕ, ◌<◌, ◌≤◌, Bool, true, not, ◌&&◌, ◌||◌, nat_eq, List, [], ◌∷◌, length, sym, ap, ◌∙◌, subst, arith, inl, inr}
 use Rattle.std.specs.List.{All, list_any}
 use Rattle.std.specs.Prelude.{IsTrue, ◌↔◌}
 use Rattle.std.proofs.lemmas.Bool.{eqb-true, eq-eqb}
@@ -38,7 +38,7 @@ module _ (lib : LibraryParts) (arch : ArchitectureParts) (failed : Set) where
       nexts a c ∙ ap (λ s. leads way (live s failed n es) a c) e ∙ ap (λ m. leads way (live arch.edges failed m es) a c) k ∙ ap (λ l. leads way (live arch.edges failed (length lib.components) l) a c) f
 
   -- down from the sources
-  pub reach_exact : (up first : Set) (rows : List Set) → ((c : ℕ) → has up c ≡ is_up arch (has failed) c) → ((c : ℕ) → has first c ≡ (has up c && is_source lib c))
+  pub reach_exact : (up first : Set) (rows : List Set) → ((c : ℕ) → has up c ≡ is_up arch (has failed) c) → ((c : ℕ) → has first c ≡ is_source lib c)
       → ((a c : ℕ) → is_next rows a c ≡ joins (live_edges lib arch (has failed)) a c)
       → (c : ℕ) → ((rest : List ℕ) × IsWalk (has first) (has up) (is_next rows) c rest) ↔ ((path : List ℕ) × IsPath lib arch c (has failed) path)
   reach_exact up first rows ups firsts nexts c =
@@ -46,12 +46,12 @@ module _ (lib : LibraryParts) (arch : ArchitectureParts) (failed : Set) where
         (λ w. exact.0 (
           w.0,
           walk_map (has first) (has up) (is_next rows) (is_source lib) (is_up arch (has failed)) (joins (live_edges lib arch (has failed)))
-              (λ d u. sym (ups d) ∙ u) (λ d u s. and_right (has up d) (is_source lib d) (sym (firsts d) ∙ s)) (λ b d u j. sym (nexts b d) ∙ j) c w.0 w.1,
+              (λ d u. sym (ups d) ∙ u) (λ d u s. sym (firsts d) ∙ s) (λ b d u j. sym (nexts b d) ∙ j) c w.0 w.1,
         )),
         (λ p. let w = exact.1 p in (
           w.0,
           walk_map (is_source lib) (is_up arch (has failed)) (joins (live_edges lib arch (has failed))) (has first) (has up) (is_next rows)
-              (λ d u. ups d ∙ u) (λ d u s. firsts d ∙ and_both (has up d) (is_source lib d) (ups d ∙ u) s) (λ b d u j. nexts b d ∙ j) c w.0 w.1,
+              (λ d u. ups d ∙ u) (λ d u s. firsts d ∙ s) (λ b d u j. nexts b d ∙ j) c w.0 w.1,
         )),
       )
 
@@ -81,26 +81,26 @@ module _ (lib : LibraryParts) (arch : ArchitectureParts) (failed : Set) where
     ancestors_exact c = ((λ w. (w.0, leads_of c w.0 w.1)), (λ l. (l.0, walk_back c l.0 l.1)))
 
   -- one step down, and one up
-  module _ (fits : IsArchitecture lib arch) (few : length lib.components ≤ COMPONENTS) (from found up : Set) (rows : List Set) (all : up ≡ arch.comps) (c : ℕ)
-      (steps : has found c ≡ (has up c && list_any (λ a. is_next rows a c) (members_below from COMPONENTS))) where
-    found_one : has found c ≡ true → (b : ℕ) × (has from b ≡ true) × (is_next rows b c ≡ true)
+  module _ (fits : IsArchitecture lib arch) (few : length lib.components ≤ COMPONENTS) (from found up : Set) (next : ℕ → ℕ → Bool) (all : up ≡ arch.comps) (c : ℕ)
+      (steps : has found c ≡ (has up c && list_any (λ a. next a c) (members_below from COMPONENTS))) where
+    found_one : has found c ≡ true → (b : ℕ) × (has from b ≡ true) × (next b c ≡ true)
     found_one h =
-        let b = some_of (λ a. is_next rows a c) (members_below from COMPONENTS) (and_right (has up c) _ (sym steps ∙ h)) in
+        let b = some_of (λ a. next a c) (members_below from COMPONENTS) (and_right (has up c) _ (sym steps ∙ h)) in
         (b.0, has-from_members from COMPONENTS b.0 b.1, b.2)
 
-    one_found : (b : ℕ) → has from b ≡ true → has arch.comps b ≡ true → has arch.comps c ≡ true → is_next rows b c ≡ true → has found c ≡ true
-    one_found b h here there next =
+    one_found : (b : ℕ) → has from b ≡ true → has arch.comps b ≡ true → has arch.comps c ≡ true → next b c ≡ true → has found c ≡ true
+    one_found b h here there step =
         let short = fits.comps b here in
-        steps ∙ and_both (has up c) _ (ap (λ s. has s c) all ∙ there) (any_of (λ a. is_next rows a c) (members_below from COMPONENTS) b (is_in-members from COMPONENTS b h (omega (arith, short, few))) next)
+        steps ∙ and_both (has up c) _ (ap (λ s. has s c) all ∙ there) (any_of (λ a. next a c) (members_below from COMPONENTS) b (is_in-members from COMPONENTS b h (omega (arith, short, few))) step)
 
-    pub down_exact : ((a d : ℕ) → is_next rows a d ≡ joins (live_edges lib arch (has failed)) a d)
+    pub down_exact : ((a d : ℕ) → next a d ≡ joins (live_edges lib arch (has failed)) a d)
         → IsTrue (has found c) ↔ ((b : ℕ) × IsTrue (has from b) × IsTrue (joins (live_edges lib arch (has failed)) b c))
     down_exact nexts = (
       (λ h. let b = found_one h in (b.0, b.1, sym (nexts b.0 c) ∙ b.2)),
       (λ b. one_found b.0 b.1 (joins_tail lib arch (has failed) fits b.0 c b.2) (joins_head lib arch (has failed) fits b.0 c b.2) (nexts b.0 c ∙ b.2)),
     )
 
-    pub up_exact : ((a d : ℕ) → is_next rows a d ≡ joins (live_edges lib arch (has failed)) d a)
+    pub up_exact : ((a d : ℕ) → next a d ≡ joins (live_edges lib arch (has failed)) d a)
         → IsTrue (has found c) ↔ ((d : ℕ) × IsTrue (has from d) × IsTrue (joins (live_edges lib arch (has failed)) c d))
     up_exact nexts = (
       (λ h. let d = found_one h in (d.0, d.1, sym (nexts d.0 c) ∙ d.2)),

@@ -5,20 +5,36 @@ ghost use Rattle.arch_model.specs.Set as set;
 ghost use Rattle.arch_model.specs.Architecture.{IsArchitecture};
 ghost use Rattle.arch_model.specs.Path.{IsPath, LeadsTo};
 ghost use Rattle.arch_model.specs.declared.limits.TheConstants.{COMPONENTS};
-ghost use Rattle.paths.specs.Links.{is_next, AreLinks};
+ghost use Rattle.paths.specs.Links.{is_linked, AreLinks};
 
 use crate::adjacency::{Way, live_rows};
 use crate::searching::{leading_to, reached_from_sources};
 use crate::spreading::entered;
+use crate::standing::sources_of;
 use arch_model::limits::COMPONENTS;
 use arch_model::{Architecture, CompId, CompSet, Library, MemberSet};
+use std::marker::Model;
 
-/// For each component those to which an edge leads from it, and those from which one leads to it.
-/// One pass over the edges makes the table, and a search over it looks at no edge again.
-#[derive(Clone, Copy)]
+/// The sources of a library, and the edges of an architecture as rows: for each component those to
+/// which an edge leads from it, and those from which one leads to it. One pass over the edges makes
+/// the table, and a search over it looks at no edge again. Contracts see which components its edges
+/// join.
+#[derive(Drop)]
 pub struct Links {
+    sources: CompSet,
     down: [CompSet; COMPONENTS],
     up: [CompSet; COMPONENTS],
+}
+
+impl Model for Links {
+    ghost use Rattle.std.specs.Prelude.{◌≡◌, ℕ};
+    ghost use Rattle.paths.specs.Links.{LinksParts, is_next};
+
+    ghost Value = { LinksParts };
+
+    ghost view = { λ a. record { sources = a.sources; rows = a.down } };
+
+    ghost invariant = { λ a. (b c : ℕ) → is_next a.up b c ≡ is_next a.down c b };
 }
 
 /// The table of the present edges outside `failed`.
@@ -27,6 +43,7 @@ pub fn links_of(lib: &Library, arch: &Architecture, failed: &MemberSet) -> Links
     ensures { AreLinks lib.now arch.now (set.has failed.now) result }
 {
     Links {
+        sources: sources_of(lib),
         down: live_rows(lib, arch, Way::Down, failed),
         up: live_rows(lib, arch, Way::Up, failed),
     }
@@ -40,7 +57,7 @@ pub fn reach_over(lib: &Library, arch: &Architecture, links: &Links, failed: &Me
     ensures { (c : ℕ) → IsTrue (set.has result c)
         ↔ ((path : List ℕ) × IsPath lib.now arch.now c (set.has failed.now) path) }
 {
-    reached_from_sources(lib, arch, &links.down, failed)
+    reached_from_sources(lib, arch, &links.sources, &links.down, failed)
 }
 
 /// What `ancestors` answers, over a table of the edges outside `failed`.
@@ -65,7 +82,7 @@ impl Links {
     pub fn heads(&self, arch: &Architecture, of: &CompSet) -> CompSet
         ensures { (c : ℕ) → set.has result c
             ≡ (set.has arch.now.comps c
-            && list_any (λ a. is_next self.now.down a c) (set.members_below of.now COMPONENTS)) }
+            && list_any (λ a. is_linked self.now a c) (set.members_below of.now COMPONENTS)) }
     {
         entered(&self.down, &arch.comps(), of)
     }
@@ -74,7 +91,7 @@ impl Links {
     pub fn tails(&self, arch: &Architecture, of: &CompSet) -> CompSet
         ensures { (c : ℕ) → set.has result c
             ≡ (set.has arch.now.comps c
-            && list_any (λ a. is_next self.now.up a c) (set.members_below of.now COMPONENTS)) }
+            && list_any (λ a. is_linked self.now c a) (set.members_below of.now COMPONENTS)) }
     {
         entered(&self.up, &arch.comps(), of)
     }

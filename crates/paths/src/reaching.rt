@@ -6,6 +6,7 @@ ghost use Rattle.arch_model.specs.Path.{IsPath, LeadsTo, Parts};
 
 use crate::adjacency::{Way, live_rows};
 use crate::searching::{leading_to, reached_from_sources};
+use crate::standing::sources_of;
 use arch_model::{Architecture, CompId, CompSet, Library, MemberSet};
 
 /// The components to which a path leads: a list of present components from a source on, each joined
@@ -17,7 +18,7 @@ pub fn reach(lib: &Library, arch: &Architecture, failed: MemberSet) -> CompSet
         ↔ ((path : List ℕ) × IsPath lib.now arch.now c (set.has failed) path) }
 {
     let down = live_rows(lib, arch, Way::Down, &failed);
-    reached_from_sources(lib, arch, &down, &failed)
+    reached_from_sources(lib, arch, &sources_of(lib), &down, &failed)
 }
 
 /// Whether no path to the sink avoids the failed members. No path leads to a sink that is absent or

@@ -2,11 +2,11 @@
 ghost use Rattle.std.specs.Prelude.{◌≡◌, ℕ, ◌<◌, ◌↔◌, ◌∷◌, IsTrue, List, length};
 ghost use Rattle.arch_model.specs.Set as set;
 ghost use Rattle.arch_model.specs.Architecture.{IsArchitecture};
-ghost use Rattle.arch_model.specs.Path.{IsPath, LeadsTo, live_edges, joins};
+ghost use Rattle.arch_model.specs.Path.{IsPath, LeadsTo, is_source, live_edges, joins};
 ghost use Rattle.paths.specs.Links.{is_next};
 
 use crate::spreading::closure;
-use crate::standing::{outside, sources};
+use crate::standing::outside;
 use arch_model::limits::COMPONENTS;
 use arch_model::{Architecture, CompId, CompSet, Library, MemberSet};
 
@@ -14,17 +14,19 @@ use arch_model::{Architecture, CompId, CompSet, Library, MemberSet};
 pub(crate) fn reached_from_sources(
     lib: &Library,
     arch: &Architecture,
+    sources: &CompSet,
     down: &[CompSet; COMPONENTS],
     failed: &MemberSet,
 ) -> CompSet
     requires architecture { IsArchitecture lib.now arch.now }
+    requires sources { (c : ℕ) → set.has sources.now c ≡ is_source lib.now c }
     requires rows { (a : ℕ) (c : ℕ) → is_next down.now a c
         ≡ joins (live_edges lib.now arch.now (set.has failed.now)) a c }
     ensures { (c : ℕ) → IsTrue (set.has result c)
         ↔ ((path : List ℕ) × IsPath lib.now arch.now c (set.has failed.now) path) }
 {
     let standing = outside(&arch.comps(), lib.components().len() as u32, failed);
-    closure(down, &standing, &sources(lib, &standing))
+    closure(down, &standing, sources)
 }
 
 // The components that lead to the sink past the failed members, over rows of predecessors.

@@ -1,11 +1,11 @@
 // Which components stand, and which of them are sources.
-ghost use Rattle.std.specs.Prelude.{◌≡◌, ℕ, ◌<◌, ◌≤◌, ◌&&◌, not, length, IsTrue};
+ghost use Rattle.std.specs.Prelude.{◌≡◌, ℕ, ◌<◌, ◌≤◌, ◌&&◌, nat_lt, not, length, IsTrue};
 ghost use Rattle.arch_model.specs.Set as set;
+ghost use Rattle.arch_model.specs.Member.{is_in};
 ghost use Rattle.arch_model.specs.Path as path;
-ghost use Rattle.arch_model.specs.declared.limits.TheConstants.{COMPONENTS};
+ghost use Rattle.arch_model.specs.declared.limits.TheConstants.{COMPONENTS, MEMBERS};
 
-use arch_model::limits::COMPONENTS;
-use arch_model::{CompId, CompSet, Component, Library, MemberSet, Role, VarId};
+use arch_model::{CompId, CompSet, Component, Library, MemberSet, Role};
 
 /// Whether a component is a source, where paths begin.
 pub fn is_source(component: &Component) -> bool
@@ -14,46 +14,38 @@ pub fn is_source(component: &Component) -> bool
     matches!(component.role, Role::Source)
 }
 
-// Whether a component that is up is a source.
-fn is_live_source(up: &CompSet, c: CompId, component: &Component) -> bool
-    ensures { result ≡ (set.has up.now c.0 && path.is_source_role component.now.role) }
-{
-    up.has(c) && is_source(component)
-}
-
-// The sources that are up.
-pub(crate) fn sources(lib: &Library, up: &CompSet) -> CompSet
-    requires { (c : ℕ) → IsTrue (set.has up.now c) → c < length lib.now.components }
-    ensures { (c : ℕ) → set.has result c ≡ (set.has up.now c && path.is_source lib.now c) }
+// The sources of a library.
+pub(crate) fn sources_of(lib: &Library) -> CompSet
+    ensures { (c : ℕ) → set.has result c ≡ path.is_source lib.now c }
 {
     let mut found = CompSet::new();
     for (i, component) in lib.components().iter().enumerate() {
-        let c = CompId(i as u32);
-        if is_live_source(up, c, component) {
-            found.put(c);
+        if is_source(component) {
+            found.put(CompId(i as u32));
         }
     }
     found
 }
 
-// Whether component c is chosen and not failed.
-fn stays(comps: &CompSet, failed: &MemberSet, c: u32) -> bool
-    ensures { result ≡ (set.has comps.now c && not (set.has failed.now c)) }
+// The components among some members, where n is above each component's number.
+fn components_among(members: &MemberSet, n: u32) -> CompSet
+    requires { n ≤ COMPONENTS }
+    ensures { (c : ℕ) → set.has result c ≡ (is_in (set.members_below members.now MEMBERS) c && nat_lt c n) }
 {
-    comps.has(CompId(c)) && !failed.has(VarId(c))
+    let mut found = CompSet::new();
+    for v in members.members() {
+        if v.0 < n {
+            found.put(CompId(v.0));
+        }
+    }
+    found
 }
 
-// The components of a set that are not failed.
+// The components of a set that are not failed. Only the failed members are looked at one by one.
 pub(crate) fn outside(comps: &CompSet, n: u32, failed: &MemberSet) -> CompSet
     requires few { n ≤ COMPONENTS }
     requires small { (c : ℕ) → IsTrue (set.has comps.now c) → c < n }
     ensures { (c : ℕ) → set.has result c ≡ (set.has comps.now c && not (set.has failed.now c)) }
 {
-    let mut up = CompSet::new();
-    for c in 0..n {
-        if stays(comps, failed, c) {
-            up.put(CompId(c));
-        }
-    }
-    up
+    comps.minus(&components_among(failed, n))
 }

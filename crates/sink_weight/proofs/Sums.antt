@@ -12,7 +12,7 @@ use Rattle.arch_model.specs.Weight.{product_of, sum_over_sublists, weight_of}
 use Rattle.arch_model.proofs.Reaching.{present_small}
 use Rattle.cut_sets.specs.CutSets.{cut_sets_of}
 use Rattle.cut_sets.proofs.Filters.{live_sublists}
-use Rattle.cut_sets.proofs.Loops.{get_in}
+use Rattle.paths.proofs.Loops.{get_in}
 use Rattle.cut_sets.proofs.Listed.{Among, contains_among, listed_exact}
 
 sum_map : (f : List ℕ → ℕ) (g : List ℕ → List ℕ) (ms : List (List ℕ)) → sum_by f (map g ms) ≡ sum_by (λ m. f (g m)) ms

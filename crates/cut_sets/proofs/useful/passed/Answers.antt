@@ -6,7 +6,7 @@ use Rattle.arch_model.proofs.Members.{has-from_members}
 use Rattle.arch_model.proofs.SetLaws.{has-empty}
 use Rattle.cut_sets.specs.Inner.Useful.{is_passed}
 use Rattle.cut_sets.proofs.Places.{below_high}
-use Rattle.cut_sets.proofs.Loops.{first_in, later_in, passing_put, passing_left, passing_done}
+use Rattle.paths.proofs.Loops.{first_in, later_in, passing_put, passing_left, passing_done}
 use Rattle.cut_sets.proofs.useful.passed.Goals as goal
 
 pub loop-v-init : goal.loop-v-init

@@ -3,7 +3,7 @@ use Rattle.arch_model.specs.declared.limits.TheConstants.{COMPONENTS}
 use Rattle.arch_model.specs.Set.{has}
 use Rattle.arch_model.specs.Member.{is_in}
 use Rattle.cut_sets.proofs.Places.{below_high}
-use Rattle.cut_sets.proofs.Loops.{first_in, later_in, put_same, all_same}
+use Rattle.paths.proofs.Loops.{first_in, later_in, put_same, all_same}
 use Rattle.cut_sets.proofs.useful.with_components.Goals as goal
 
 pub loop-c-init : goal.loop-c-init

@@ -5,6 +5,6 @@ use Rattle.paths.proofs.searching.reached_from_sources.Goals as goal
 
 pub returns : goal.returns
 returns c d = through (c.closure.ensures d)
-    (reach_exact c.args.lib.now c.args.arch.now c.args.failed.now c.outside-standing.result c.sources.result c.args.down.now
+    (reach_exact c.args.lib.now c.args.arch.now c.args.failed.now c.outside-standing.result c.args.sources.now c.args.down.now
     (λ e. c.outside-standing.ensures e ∙ ap (λ (s : Set). has s e && not (has c.args.failed.now e)) c.comps.ensures)
-    c.sources.ensures c.requires.rows d)
+    c.requires.sources c.requires.rows d)

@@ -6,7 +6,7 @@ use Rattle.arch_model.specs.Path.{parts}
 use Rattle.arch_model.specs.Set.{Set, has, minus, put}
 use Rattle.cut_sets.proofs.Beyond.{and_yes}
 use Rattle.cut_sets.proofs.Places.{below_high}
-use Rattle.cut_sets.proofs.Loops.{first_in, later_in}
+use Rattle.paths.proofs.Loops.{first_in, later_in}
 use Rattle.cut_sets.proofs.network.Network.is_minimal.Goals as goal
 
 pub loop-v-init : goal.loop-v-init

@@ -5,7 +5,7 @@ use Rattle.arch_model.specs.Member.{is_in}
 use Rattle.arch_model.proofs.Members.{has-from_members}
 use Rattle.cut_sets.specs.Inner.Upcoming.{NetworkParts}
 use Rattle.cut_sets.proofs.Places.{below_high, candidate_low, candidate_member}
-use Rattle.cut_sets.proofs.Loops.{first_in, later_in, put_keeps, put_or_later, passed_or_later, all_put, put_inside}
+use Rattle.paths.proofs.Loops.{first_in, later_in, put_keeps, put_or_later, passed_or_later, all_put, put_inside}
 use Rattle.cut_sets.proofs.Spent.{inside_limit}
 use Rattle.cut_sets.proofs.network.Network.undecided.Goals as goal
 

@@ -5,7 +5,7 @@ use Rattle.arch_model.specs.Member.{is_in}
 use Rattle.arch_model.proofs.SetLaws.{has-empty}
 use Rattle.arch_model.proofs.ProductLaws.{no_member}
 use Rattle.cut_sets.specs.Inner.Upcoming.{PlaceParts}
-use Rattle.cut_sets.proofs.Loops.{get_in, put_next}
+use Rattle.paths.proofs.Loops.{get_in, put_next}
 use Rattle.cut_sets.proofs.place.Place.set.Goals as goal
 
 pub loop-v-init : goal.loop-v-init
