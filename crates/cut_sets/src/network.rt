@@ -14,7 +14,7 @@ use crate::candidates::candidates;
 use crate::place::Place;
 use crate::useful::{Failing, passed, sides_of};
 use arch_model::{Architecture, CompId, CompSet, Library, MemberSet, VarId};
-use paths::{Links, links_of, reach, reach_over};
+use paths::{Links, links_of, reach_over};
 use std::marker::Model;
 
 // A library's architecture, one of its components, and the members that may be in a set.
@@ -62,31 +62,30 @@ impl<'a> Network<'a> {
         }
     }
 
-    // Whether all of some members are components. Where no edge has failed, the table serves.
-    fn are_components(&self, members: &MemberSet) -> bool
-        ensures { IsTrue result
-            ↔ ((v : ℕ) → IsTrue (set.has members.now v) → v < length self.now.lib.components) }
+    // Some failed members, with a table of the edges that are left.
+    fn failing(&self, members: MemberSet) -> Failing
+        ensures members { result.members ≡ members }
+        ensures links { AreLinks self.now.lib self.now.arch (set.has members) result.links }
     {
-        members.is_below(self.lib.components().len())
+        let links = self.links.without(self.lib, &self.arch, &members);
+        Failing { members, links }
     }
 
     // The components to which a path leads where some members have failed.
-    fn reached(&self, failed: &MemberSet) -> CompSet
+    fn reached(&self, failing: &Failing) -> CompSet
+        requires { AreLinks self.now.lib self.now.arch (set.has failing.now.members) failing.now.links }
         ensures { (c : ℕ) → IsTrue (set.has result c)
-            ↔ ((path : List ℕ) × IsPath self.now.lib self.now.arch c (set.has failed.now) path) }
+            ↔ ((path : List ℕ) × IsPath self.now.lib self.now.arch c (set.has failing.now.members) path) }
     {
-        if self.are_components(failed) {
-            reach_over(self.lib, &self.arch, &self.links, failed)
-        } else {
-            reach(self.lib, &self.arch, *failed)
-        }
+        reach_over(self.lib, &self.arch, &failing.links, &failing.members)
     }
 
     // Whether some failed members part the sink.
     pub(crate) fn cuts(&self, failed: &MemberSet) -> bool
         ensures { result ≡ parts self.now.lib self.now.arch self.now.sink (set.has failed.now) }
     {
-        !self.reached(failed).has(self.sink)
+        let failing = self.failing(*failed);
+        !self.reached(&failing).has(self.sink)
     }
 
     // Whether some members part the sink no longer without any one of them.
@@ -124,15 +123,6 @@ impl<'a> Network<'a> {
         wide
     }
 
-    // The components to which a path leads, over a table where some members have failed.
-    fn reached_over(&self, failing: &Failing) -> CompSet
-        requires { AreLinks self.now.lib self.now.arch (set.has failing.now.members.now) failing.now.links.now }
-        ensures { (c : ℕ) → IsTrue (set.has result c)
-            ↔ ((path : List ℕ) × IsPath self.now.lib self.now.arch c (set.has failing.now.members.now) path) }
-    {
-        reach_over(self.lib, &self.arch, failing.links, failing.members)
-    }
-
     // Whether the sink is a component at all.
     fn has_sink(&self) -> bool
         ensures { IsTrue result ↔ (self.now.sink < length self.now.lib.components) }
@@ -150,53 +140,23 @@ impl<'a> Network<'a> {
     ) -> Option<VarId>
         requires network { IsNetwork self.now }
         requires in_range { self.now.sink < length self.now.lib.components }
-        requires same { (v : ℕ) → set.has chosen.now.members.now v ≡ is_in place.now.chosen v }
-        requires wide { IsWide self.now place.now wide.now.members.now }
+        requires same { (v : ℕ) → set.has chosen.now.members v ≡ is_in place.now.chosen v }
+        requires wide { IsWide self.now place.now wide.now.members }
         requires chosen_links { AreLinks self.now.lib self.now.arch
-            (set.has chosen.now.members.now) chosen.now.links.now }
+            (set.has chosen.now.members) chosen.now.links }
         requires wide_links { AreLinks self.now.lib self.now.arch
-            (set.has wide.now.members.now) wide.now.links.now }
+            (set.has wide.now.members) wide.now.links }
         requires reached { (c : ℕ) → IsTrue (set.has reached.now c)
-            ↔ ((path : List ℕ) × IsPath self.now.lib self.now.arch c (set.has wide.now.members.now) path) }
+            ↔ ((path : List ℕ) × IsPath self.now.lib self.now.arch c (set.has wide.now.members) path) }
         ensures { IsNextChoice self.now place.now result }
     {
         let sides = sides_of(self.lib, &self.arch, self.sink, chosen, wide, reached);
-        let useful = passed(self.lib, self.sink, &sides, wide.members);
+        let useful = passed(self.lib, self.sink, &sides, &wide.members);
         if let Some(_stranded) = chosen.members.minus(&useful).next_from(0) {
             return None;
         }
         let next = useful.next_from(place.at())?;
         Some(VarId(next as u32))
-    }
-
-    // What `next_useful` answers, where all of `wide` have failed.
-    fn next_within(&self, place: &Place, wide: &Failing) -> Option<VarId>
-        requires network { IsNetwork self.now }
-        requires place { IsPlace self.now place.now }
-        requires in_range { self.now.sink < length self.now.lib.components }
-        requires wide { IsWide self.now place.now wide.now.members.now }
-        requires links { AreLinks self.now.lib self.now.arch (set.has wide.now.members.now) wide.now.links.now }
-        ensures { IsNextChoice self.now place.now result }
-    {
-        let reached = self.reached_over(wide);
-        if reached.has(self.sink) {
-            return None;
-        }
-        let members = place.set();
-        if self.are_components(&members) {
-            let chosen = Failing {
-                members: &members,
-                links: &self.links,
-            };
-            self.next_beside(place, &chosen, wide, &reached)
-        } else {
-            let links = links_of(self.lib, &self.arch, &members);
-            let chosen = Failing {
-                members: &members,
-                links: &links,
-            };
-            self.next_beside(place, &chosen, wide, &reached)
-        }
     }
 
     // The next candidate to choose: the least from a place on that can be needed beside the chosen
@@ -210,20 +170,12 @@ impl<'a> Network<'a> {
         if !self.has_sink() {
             return None;
         }
-        let members = self.undecided(place);
-        if self.are_components(&members) {
-            let wide = Failing {
-                members: &members,
-                links: &self.links,
-            };
-            self.next_within(place, &wide)
-        } else {
-            let links = links_of(self.lib, &self.arch, &members);
-            let wide = Failing {
-                members: &members,
-                links: &links,
-            };
-            self.next_within(place, &wide)
+        let wide = self.failing(self.undecided(place));
+        let reached = self.reached(&wide);
+        if reached.has(self.sink) {
+            return None;
         }
+        let chosen = self.failing(place.set());
+        self.next_beside(place, &chosen, &wide, &reached)
     }
 }

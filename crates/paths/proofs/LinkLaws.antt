@@ -6,7 +6,7 @@ use Rattle.arch_model.specs.Architecture.{present}
 use Rattle.arch_model.specs.Path.{live_edges, joins}
 use Rattle.arch_model.proofs.Members.{false_if}
 use Rattle.arch_model.proofs.SetLaws.{has-empty}
-use Rattle.paths.specs.Links.{LinksParts, is_next, AreLinks}
+use Rattle.paths.specs.Links.{LinksParts, AreLinks}
 
 -- a table of edges is one where the same edges have failed
 pub links_beside : (lib : LibraryParts) (arch : ArchitectureParts) (f g : ℕ → Bool) (table : LinksParts) → AreLinks lib arch f table → ((e : ℕ) → f (length lib.components + e) ≡ g (length lib.components + e)) → AreLinks lib arch g table

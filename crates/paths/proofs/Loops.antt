@@ -52,7 +52,7 @@ get_in [] i d h = absurd (omega arith)
 get_in (m ∷ ms) zero d h = or_left (nat_eq m.0 m.0) (is_in (map (λ (v : VarId). v.0) ms) m.0) (eq-eqb m.0 m.0 refl)
 get_in (m ∷ ms) (suc i) d h = or_right (nat_eq m.0 (get_or ms i d).0) (is_in (map (λ (v : VarId). v.0) ms) (get_or ms i d).0) (get_in ms i d (omega arith))
 
-or_none : (b : Bool) → (b || false) ≡ b
+pub or_none : (b : Bool) → (b || false) ≡ b
 or_none true = refl
 or_none false = refl
 
@@ -67,7 +67,7 @@ put_next members i d before after short grown c so_far =
     ∙ sym (is_in-append (map (λ (v : VarId). v.0) (take i members)) (item.0 ∷ []) c)
     ∙ ap (λ l. is_in l c) (sym (ap (map (λ (v : VarId). v.0)) (take_more members i d short) ∙ map-append (λ (v : VarId). v.0) (take i members) (item ∷ [])))
 
-or_assoc : (a b c : Bool) → ((a || b) || c) ≡ (a || (b || c))
+pub or_assoc : (a b c : Bool) → ((a || b) || c) ≡ (a || (b || c))
 or_assoc true b c = refl
 or_assoc false b c = refl
 

@@ -48,12 +48,12 @@ and_none : (h : Bool) → (h && false) ≡ false
 and_none true = refl
 and_none false = refl
 
-absorb_left : (p b : Bool) → (b ≡ true → p ≡ true) → (p && b) ≡ b
+pub absorb_left : (p b : Bool) → (b ≡ true → p ≡ true) → (p && b) ≡ b
 absorb_left true b h = refl
 absorb_left false true h = h refl
 absorb_left false false h = refl
 
-below_step : (c i : ℕ) → ltb c (i + 1) ≡ (ltb c i || nat_eq i c)
+pub below_step : (c i : ℕ) → ltb c (i + 1) ≡ (ltb c i || nat_eq i c)
 below_step c i = same_test (ltb c (i + 1)) (ltb c i || nat_eq i c)
     (λ h. let lt : c < i + 1 = ltb-true c (i + 1) h in elim (eqb_tells i c) [
       | inl w ↦ or_right (ltb c i) (nat_eq i c) w.0
@@ -125,7 +125,7 @@ same_when before after h c b off is = ap (λ s. has s c) is ∙ sym (or_none (ha
 pub next_at : (rows : List Set) (a c : ℕ) (d : Set) → a < length rows → has (get_or rows a d) c ≡ is_next rows a c
 next_at rows a c d h = sym (ap (λ o. has (unwrap_or o empty) c) (slice_get-get_or rows a d h))
 
-next_get : (rows : List Set) (a c : ℕ) → is_next rows a c ≡ has (get_or rows a empty) c
+pub next_get : (rows : List Set) (a c : ℕ) → is_next rows a c ≡ has (get_or rows a empty) c
 next_get rows a c = ap (λ s. has s c) (unwrap_or-slice_get rows a empty)
 
 pub next_none : (rows : List Set) (n a c : ℕ) (e : Set) → rows ≡ replicate n e → e ≡ empty → is_next rows a c ≡ false

@@ -1,14 +1,18 @@
 // Rows of successors: for each component, those to which an edge that is not failed leads.
-ghost use Rattle.std.specs.Prelude.{◌≡◌, ℕ, ◌+◌, ◌<◌, ◌≤◌, IsTrue, length};
+ghost use Rattle.std.specs.Prelude.{◌≡◌, ◌≢◌, ℕ, ◌+◌, ◌<◌, ◌≤◌, ◌&&◌, not, IsTrue, length};
 ghost use Rattle.std.specs.List.{All};
+ghost use Rattle.std.specs.Option.{MatchOption};
 ghost use Rattle.arch_model.specs.Set as set;
 ghost use Rattle.arch_model.specs.Architecture.{IsArchitecture};
+ghost use Rattle.arch_model.specs.Library.{IsLibrary};
+ghost use Rattle.arch_model.specs.Member.{is_in};
 ghost use Rattle.arch_model.specs.Path.{live_edges};
+ghost use Rattle.arch_model.specs.declared.limits.TheConstants.{MEMBERS};
 ghost use Rattle.paths.specs.Inner.Spread.{from_of, to_of, leads, live};
 ghost use Rattle.paths.specs.Links.{is_next};
 
 use arch_model::limits::{COMPONENTS, EDGES};
-use arch_model::{Architecture, CompId, CompSet, Edge, EdgeSet, Library, MemberSet, VarId};
+use arch_model::{Architecture, CompId, CompSet, Edge, EdgeId, EdgeSet, Library, MemberSet, VarId};
 
 // Whether edges are walked from tail to head or from head to tail.
 #[derive(Clone, Copy)]
@@ -54,6 +58,70 @@ fn rows_of(
         }
     }
     rows
+}
+
+// Some rows without others, row by row.
+pub(crate) fn rows_without(
+    rows: &[CompSet; COMPONENTS],
+    gone: &[CompSet; COMPONENTS],
+) -> [CompSet; COMPONENTS]
+    ensures { (a : ℕ) (c : ℕ) → is_next result a c ≡ (is_next rows.now a c && not (is_next gone.now a c)) }
+{
+    let mut left = *rows;
+    for a in 0..COMPONENTS {
+        let row = left[a];
+        left[a] = row.minus(&gone[a]);
+    }
+    left
+}
+
+// The edge that is member v, where the first edge is member n.
+fn edge_of(v: VarId, n: u32) -> Option<EdgeId>
+    ensures { MatchOption result ((e : ℕ) → e < EDGES → v.0 ≢ n + e) (λ e. (e.0 < EDGES) × (v.0 ≡ n + e.0)) }
+{
+    if v.0 < n {
+        return None;
+    }
+    let e = v.0 - n;
+    if e < EDGES as u32 {
+        Some(EdgeId(e))
+    } else {
+        None
+    }
+}
+
+// The edges among some members, where the first edge is member n.
+fn edges_among(members: &MemberSet, n: u32) -> EdgeSet
+    ensures { (e : ℕ) → e < EDGES
+        → set.has result e ≡ is_in (set.members_below members.now MEMBERS) (n + e) }
+{
+    let mut found = EdgeSet::new();
+    for v in members.members() {
+        if let Some(e) = edge_of(v, n) {
+            found.put(e);
+        }
+    }
+    found
+}
+
+// The edges of an architecture that are in `failed`. Only the members of `failed` are looked at.
+pub(crate) fn failed_edges(lib: &Library, arch: &Architecture, failed: &MemberSet) -> EdgeSet
+    requires { IsArchitecture lib.now arch.now }
+    ensures library { IsLibrary lib.now }
+    ensures edges { (e : ℕ) → set.has result e
+        ≡ (set.has arch.now.edges e && set.has failed.now (length lib.now.components + e)) }
+{
+    edges_among(failed, lib.components().len() as u32).intersection(&arch.edges())
+}
+
+// The rows of some of a library's edges.
+pub(crate) fn rows_among(lib: &Library, way: Way, chosen: &EdgeSet) -> [CompSet; COMPONENTS]
+    requires { (e : ℕ) → IsTrue (set.has chosen.now e) → e < length lib.now.edges }
+    ensures { (a : ℕ) (c : ℕ) → is_next result a c
+        ≡ leads way (live chosen.now set.empty (length lib.now.components) lib.now.edges) a c }
+{
+    let n = lib.components().len() as u32;
+    rows_of(lib.edges(), way, chosen, &MemberSet::new(), n)
 }
 
 // The rows of an architecture's edges outside `failed`.

@@ -7,12 +7,12 @@ ghost use Rattle.arch_model.specs.Path.{IsPath, LeadsTo};
 ghost use Rattle.arch_model.specs.declared.limits.TheConstants.{COMPONENTS};
 ghost use Rattle.paths.specs.Links.{is_linked, AreLinks};
 
-use crate::adjacency::{Way, live_rows};
+use crate::adjacency::{Way, failed_edges, live_rows, rows_among, rows_without};
 use crate::searching::{leading_to, reached_from_sources};
 use crate::spreading::entered;
 use crate::standing::sources_of;
 use arch_model::limits::COMPONENTS;
-use arch_model::{Architecture, CompId, CompSet, Library, MemberSet};
+use arch_model::{Architecture, CompId, CompSet, EdgeSet, Library, MemberSet};
 use std::marker::Model;
 
 /// The sources of a library, and the edges of an architecture as rows: for each component those to
@@ -78,6 +78,28 @@ pub fn ancestors_over(
 }
 
 impl Links {
+    /// A table of all edges, without those in `failed`. It costs a look at each of these and at each
+    /// row.
+    pub fn without(&self, lib: &Library, arch: &Architecture, failed: &MemberSet) -> Links
+        requires architecture { IsArchitecture lib.now arch.now }
+        requires all { AreLinks lib.now arch.now (set.has set.empty) self.now }
+        ensures { AreLinks lib.now arch.now (set.has failed.now) result }
+    {
+        let gone = failed_edges(lib, arch, failed);
+        if gone == EdgeSet::new() {
+            return Links {
+                sources: self.sources,
+                down: self.down,
+                up: self.up,
+            };
+        }
+        Links {
+            sources: self.sources,
+            down: rows_without(&self.down, &rows_among(lib, Way::Down, &gone)),
+            up: rows_without(&self.up, &rows_among(lib, Way::Up, &gone)),
+        }
+    }
+
     /// The present components to which one of the edges leads from one of some components.
     pub fn heads(&self, arch: &Architecture, of: &CompSet) -> CompSet
         ensures { (c : ℕ) → set.has result c

@@ -1,11 +1,12 @@
-use Rattle.std.proofs.Common.{◌≡◌, ◌<◌, ◌∙◌, ℕ, true, false, sym, subst, inl, inr, length}
+use Rattle.std.proofs.Common.{◌≡◌, ◌<◌, ◌∙◌, ℕ, true, false, sym, ap, subst, inl, inr, length, not}
 use Rattle.std.proofs.lemmas.Bool.{cases_lt}
-use Rattle.arch_model.specs.Set.{has}
-use Rattle.paths.specs.Links.{AreLinks}
-use Rattle.paths.proofs.LinkLaws.{links_of_all}
+use Rattle.arch_model.specs.Set.{Set, has}
+use Rattle.arch_model.specs.Path.{parts}
 use Rattle.cut_sets.specs.Inner.Upcoming.{NetworkParts}
+use Rattle.cut_sets.proofs.Beyond.{spent_wider}
 use Rattle.cut_sets.proofs.Places.{chosen_has}
-use Rattle.cut_sets.proofs.Spent.{no_sink}
+use Rattle.cut_sets.proofs.Steps.{members_small}
+use Rattle.cut_sets.proofs.Spent.{no_sink, uncut_path}
 use Rattle.cut_sets.proofs.network.Network.next_useful.Goals as goal
 
 pub returns-then-not-has_sink : goal.returns-then-not-has_sink
@@ -14,11 +15,13 @@ returns-then-not-has_sink c = no_sink c.args.self.now c.requires.network c.args.
   | inr high ↦ high
 ])
 
-pub undecided-members-requires-clause-chosen : goal.undecided-members-requires-clause-chosen
-undecided-members-requires-clause-chosen c v h = chosen_has c.args.self.now 0 0 c.args.place.now.chosen c.args.place.now.at c.requires.place v h
+pub undecided-requires-clause-chosen : goal.undecided-requires-clause-chosen
+undecided-requires-clause-chosen c v h = chosen_has c.args.self.now 0 0 c.args.place.now.chosen c.args.place.now.at c.requires.place v h
 
-pub next_within-requires-clause-links : goal.next_within-requires-clause-links
-next_within-requires-clause-links c =
-    subst (λ (net : NetworkParts). AreLinks net.lib net.arch (has c.undecided-members.result) c.self.inside.links) c.self.view_is
-    (links_of_all c.self.inside.lib.now c.self.inside.arch c.self.inside.links c.undecided-members.result c.self.invariant.links
-    (subst (λ (net : NetworkParts). (v : ℕ) → has c.undecided-members.result v ≡ true → v < length net.lib.components) (sym c.self.view_is) (c.are_components.ensures.0 c.if-are_components.true)))
+pub returns-then-has : goal.returns-then-has
+returns-then-has c =
+    let net = c.args.self.now in
+    spent_wider net c.requires.network.fits c.args.place.now.chosen c.args.place.now.at c.undecided.result c.undecided.ensures.chosen c.undecided.ensures.candidates
+    (ap (λ (s : Set). parts net.lib net.arch net.sink (has s)) (sym c.failing-wide.ensures.members)
+    ∙ uncut_path net.lib net.arch c.requires.network.fits net.sink (has c.failing-wide.result.members) (has c.reached-reached.result net.sink) (c.reached-reached.ensures net.sink)
+    ∙ ap not (ap (λ (net : NetworkParts). has c.reached-reached.result net.sink) (sym c.self.view_is) ∙ sym c.has.ensures.member ∙ c.if-has.true))
