@@ -1,0 +1,17 @@
+use Rattle.std.proofs.Common.{rules}
+use Rattle.std.proofs.lemmas.List.Sorted.{answers_always}
+use Rattle.search_core.proofs.LiveLists.{searched}
+use Rattle.search_core.proofs.nodes.place.Goals as goal
+
+-- the closure gives a live node's number
+pub returns-clause-found : goal.returns-clause-found
+returns-clause-found c =
+    let facts = c.binary_search_by_key.ensures in
+    let by_key = facts.position (λ live. live.number) (answers_always _ _ _ (λ f a r g called. search rules)) in
+    (searched c.args.live.now c.requires c.args.number c.binary_search_by_key.result facts.bound by_key).0
+
+pub returns-clause-absent : goal.returns-clause-absent
+returns-clause-absent c =
+    let facts = c.binary_search_by_key.ensures in
+    let by_key = facts.position (λ live. live.number) (answers_always _ _ _ (λ f a r g called. search rules)) in
+    (searched c.args.live.now c.requires c.args.number c.binary_search_by_key.result facts.bound by_key).1

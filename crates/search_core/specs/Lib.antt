@@ -1,0 +1,16 @@
+pub mod Node
+pub mod State
+pub mod Candidate
+pub mod Step
+pub mod History
+pub mod Answers
+pub mod Diligent
+pub mod Invariant
+pub mod Solved
+pub mod Follow
+pub mod Rules
+pub mod Refused
+pub mod Sought
+pub mod Parts
+pub mod HistoryParts
+pub mod Inner
