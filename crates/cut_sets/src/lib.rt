@@ -13,8 +13,8 @@
 //! no set. What is left costs a few looks a set, also in dense layers, where trying every choice
 //! would cost 2^width.
 //!
-//! One table of the present edges, made at the start, serves all searches in which no edge has
-//! failed. Where one has, a table is made for that set of failed members.
+//! One table of the present edges, made at the start, serves all searches: edges that have failed
+//! are taken out of a copy.
 //!
 //! Stands on `arch_model`, `paths` and `smallvec`.
 #![tactic(auto)]

@@ -1,6 +1,8 @@
 -- Edges that have failed: their numbers, their rows, and a table without them.
-use Rattle.std.proofs.Common.{◌≡◌, ◌≢◌, ℕ, ◌+◌, ◌<◌, ◌≤◌, Bool, true, false, not, ◌&&◌, ◌||◌, nat_eq, List, ◌∷◌, length, get_or, refl, sym, ap, ◌∙◌, arith, inl, inr, ltb, get_or-set_same, get_or-set_other}
+use Rattle.std.proofs.Common.{◌≡◌, ◌≢◌, ℕ, ◌+◌, ◌<◌, ◌≤◌, Bool, true, false, not, ◌&&◌, ◌||◌, nat_eq, List, [], ◌∷◌, length, get_or, refl, sym, ap, ◌∙◌, arith, inl, inr, ltb, get_or-set_same, get_or-set_other}
 use Rattle.std.proofs.lemmas.Option.{slice_get_cases}
+use Rattle.std.specs.Prelude.{IsTrue}
+use Rattle.std.specs.List.{list_any}
 use Rattle.std.specs.Option.{unwrap_or}
 use Rattle.std.proofs.lemmas.Bool.{eqb-true, eq-eqb, lt-ltb, le-ltb}
 use Rattle.std.proofs.lemmas.Bool.Decides.{eqb_tells}
@@ -10,7 +12,7 @@ use Rattle.arch_model.specs.declared.template.Edge.{Edge}
 use Rattle.arch_model.specs.Set.{Set, has, put, empty, minus, intersection, members_below}
 use Rattle.arch_model.specs.Parts.{LibraryParts, ArchitectureParts}
 use Rattle.arch_model.specs.Library.{IsLibrary}
-use Rattle.arch_model.specs.Architecture.{IsArchitecture}
+use Rattle.arch_model.specs.Architecture.{IsArchitecture, present}
 use Rattle.arch_model.specs.Member.{is_in}
 use Rattle.arch_model.specs.Path.{live_edges, joins}
 use Rattle.arch_model.proofs.Members.{and_left, and_right, and_both, false_if, not_true, same_test, some_of, any_of, is_in-members, has-from_members}
@@ -18,7 +20,7 @@ use Rattle.arch_model.proofs.SetLaws.{has-put, has-empty, has-minus, has-interse
 use Rattle.arch_model.proofs.Ranges.{blank_edge}
 use Rattle.paths.specs.declared.adjacency.Way.{Way}
 use Rattle.paths.specs.declared.adjacency.Way.TheVariants.{Down}
-use Rattle.paths.specs.Inner.Spread.{leads, live}
+use Rattle.paths.specs.Inner.Spread.{from_of, to_of, leads, live}
 use Rattle.paths.specs.Links.{LinksParts, is_next, is_linked, AreLinks}
 use Rattle.paths.proofs.EdgesDiffer.{edges_differ}
 use Rattle.paths.proofs.Loops.{or_none, or_assoc}
@@ -44,52 +46,56 @@ edge_passed found all rest v n e is other =
     ap (λ b. has found e || (b || is_in rest (n + e))) (sym (false_if (nat_eq v (n + e)) (λ h. other (eqb-true v (n + e) h))))
     ∙ ap (λ l. has found e || is_in l (n + e)) (sym is)
 
--- rows without others
-next_low : (rows : List Set) (a c : ℕ) → is_next rows a c ≡ true → a < length rows
-next_low rows a c h = elim (slice_get_cases rows a).1 [
-  | inl some ↦ some.1
-  | inr none ↦ absurd (let e : false ≡ true = sym (ap (λ o. has (unwrap_or o empty) c) none.1 ∙ has-empty c) ∙ h in cc)
-]
+-- rows less one edge
+lost_more : (x h r : Bool) → ((x && not h) && not r) ≡ (x && not (h || r))
+lost_more false h r = refl
+lost_more true true r = refl
+lost_more true false r = refl
 
-pub none_without : (rows gone left : List Set) → left ≡ rows → (b c : ℕ) → is_next left b c ≡ (is_next rows b c && not (ltb b 0 && is_next gone b c))
-none_without rows gone left same b c =
-    ap (λ l. is_next l b c) same ∙ sym (and_yes (is_next rows b c))
-    ∙ ap (λ x. is_next rows b c && not (x && is_next gone b c)) (sym (le-ltb b 0 (omega arith)))
+module _ (way : Way) (edges : List Edge) (left after : List Set) (e from to : ℕ) (d one : Set) (low : from < length left)
+    (from_is : from ≡ from_of way (get_or edges e blank_edge)) (to_is : to ≡ to_of way (get_or edges e blank_edge)) (one_is : one ≡ put empty to) (step : after ≡ set left from (minus (get_or left from d) one)) where
+  after_is : (a c : ℕ) → is_next after a c ≡ (is_next left a c && not (nat_eq from a && nat_eq to c))
+  after_is a c =
+      let fresh = minus (get_or left from d) one in
+      ap (λ l. is_next l a c) step ∙ next_get (set left from fresh) a c ∙ elim (eqb_tells from a) [
+        | inl w ↦
+            ap (λ j. has (get_or (set left from fresh) j empty) c) (sym w.1)
+            ∙ ap (λ s. has s c) (get_or-set_same left from fresh empty low)
+            ∙ has-minus (get_or left from d) one c
+            ∙ ap (λ x. x && not (has one c)) (next_at left from c d low ∙ ap (λ j. is_next left j c) w.1)
+            ∙ ap (λ b. is_next left a c && not b) (ap (λ s. has s c) one_is ∙ has-put empty to c ∙ ap (λ b. b || nat_eq to c) (has-empty c))
+            ∙ ap (λ b. is_next left a c && not (b && nat_eq to c)) (sym w.0)
+        | inr w ↦
+            let ne : a ≢ from = λ same. w.1 (sym same) in
+            ap (λ s. has s c) (get_or-set_other left from a fresh empty ne)
+            ∙ sym (next_get left a c)
+            ∙ sym (and_yes (is_next left a c))
+            ∙ ap (λ b. is_next left a c && not (b && nat_eq to c)) (sym w.0)
+      ]
 
-pub one_without : (rows gone left after : List Set) (i : ℕ) (d e : Set) → i < length left → i < length gone → after ≡ set left i (minus (get_or left i d) (get_or gone i e))
-    → ((b c : ℕ) → is_next left b c ≡ (is_next rows b c && not (ltb b i && is_next gone b c))) → (b c : ℕ) → is_next after b c ≡ (is_next rows b c && not (ltb b (i + 1) && is_next gone b c))
-one_without rows gone left after i d e low short step so_far b c =
-    let fresh = minus (get_or left i d) (get_or gone i e) in
-    ap (λ l. is_next l b c) step ∙ next_get (set left i fresh) b c ∙ elim (eqb_tells i b) [
-      | inl w ↦
-          ap (λ j. has (get_or (set left i fresh) j empty) c) (sym w.1)
-          ∙ ap (λ s. has s c) (get_or-set_same left i fresh empty low)
-          ∙ has-minus (get_or left i d) (get_or gone i e) c
-          ∙ ap (λ x. x && not (has (get_or gone i e) c)) (next_at left i c d low ∙ so_far i c ∙ ap (λ x. is_next rows i c && not (x && is_next gone i c)) (le-ltb i i (omega arith)) ∙ and_yes (is_next rows i c))
-          ∙ ap (λ g. is_next rows i c && not g) (next_at gone i c e short)
-          ∙ sym (ap (λ x. is_next rows i c && not (x && is_next gone i c)) (lt-ltb i (i + 1) (omega arith)))
-          ∙ ap (λ j. is_next rows j c && not (ltb j (i + 1) && is_next gone j c)) w.1
-      | inr w ↦
-          let ne : b ≢ i = λ same. w.1 (sym same) in
-          ap (λ s. has s c) (get_or-set_other left i b fresh empty ne)
-          ∙ sym (next_get left b c)
-          ∙ so_far b c
-          ∙ ap (λ x. is_next rows b c && not (x && is_next gone b c)) (sym (below_step b i ∙ ap (λ x. ltb b i || x) w.0 ∙ or_none (ltb b i)))
-    ]
+  pub edge_less : (all rest : List ℕ) → all ≡ e ∷ rest → (a c : ℕ)
+      → (is_next after a c && not (list_any (joins_by way edges empty 0 a c) rest)) ≡ (is_next left a c && not (list_any (joins_by way edges empty 0 a c) all))
+  edge_less all rest is a c =
+      ap (λ b. b && not (list_any (joins_by way edges empty 0 a c) rest)) (after_is a c)
+      ∙ lost_more (is_next left a c) (nat_eq from a && nat_eq to c) (list_any (joins_by way edges empty 0 a c) rest)
+      ∙ ap (λ b. is_next left a c && not (b || list_any (joins_by way edges empty 0 a c) rest))
+      (ap (λ m. nat_eq m a && nat_eq to c) from_is
+      ∙ ap (λ m. nat_eq (from_of way (get_or edges e blank_edge)) a && nat_eq m c) to_is
+      ∙ ap (λ b. not b && (nat_eq (from_of way (get_or edges e blank_edge)) a && nat_eq (to_of way (get_or edges e blank_edge)) c)) (sym (has-empty (0 + e))))
+      ∙ ap (λ l. is_next left a c && not (list_any (joins_by way edges empty 0 a c) l)) (sym is)
 
-pub all_without : (rows gone left : List Set) (i : ℕ) → length gone ≤ i → ((b c : ℕ) → is_next left b c ≡ (is_next rows b c && not (ltb b i && is_next gone b c))) → (b c : ℕ) → is_next left b c ≡ (is_next rows b c && not (is_next gone b c))
-all_without rows gone left i all so_far b c =
-    so_far b c ∙ ap (λ x. is_next rows b c && not x) (absorb_left (ltb b i) (is_next gone b c) (λ h. let low = next_low gone b c h in lt-ltb b i (omega (arith, low, all))))
+pub edges_gone : (way : Way) (edges : List Edge) (rows left : List Set) (gone : Set) (all : List ℕ) (a c : ℕ) → ((e : ℕ) → IsTrue (has gone e) → e < length edges) → length edges ≤ EDGES → all ≡ []
+    → (is_next left a c && not (list_any (joins_by way edges empty 0 a c) all)) ≡ (is_next rows a c && not (list_any (joins_by way edges empty 0 a c) (members_below gone EDGES)))
+    → is_next left a c ≡ (is_next rows a c && not (leads way (live gone empty 0 edges) a c))
+edges_gone way edges rows left gone all a c small few none so_far =
+    sym (and_yes (is_next left a c))
+    ∙ ap (λ l. is_next left a c && not (list_any (joins_by way edges empty 0 a c) l)) (sym none)
+    ∙ so_far
+    ∙ ap (λ b. is_next rows a c && not b) (leads_members way gone empty 0 EDGES edges a c small few)
 
 -- a set whose mask is that of no members
 pub same_masks : (s none : Set) → none ≡ empty → nat_eq s.mask none.mask ≡ true → s ≡ empty
 same_masks s none clear same = let of : ℕ → Set = λ m. record { mask = m } in ap of (eqb-true s.mask none.mask same) ∙ clear
-
--- the rows of some of a library's edges
-pub rows_among_are : (lib : LibraryParts) (way : Way) (rows : List Set) (chosen none : Set) (n : ℕ) (es : List Edge) → none ≡ empty → n ≡ length lib.components → es ≡ lib.edges
-    → ((a c : ℕ) → is_next rows a c ≡ leads way (live chosen none n es) a c) → (a c : ℕ) → is_next rows a c ≡ leads way (live chosen empty (length lib.components) lib.edges) a c
-rows_among_are lib way rows chosen none n es clear k f nexts a c =
-    nexts a c ∙ ap (λ s. leads way (live chosen s n es) a c) clear ∙ ap (λ m. leads way (live chosen empty m es) a c) k ∙ ap (λ l. leads way (live chosen empty (length lib.components) l) a c) f
 
 module _ (lib : LibraryParts) (arch : ArchitectureParts) (right : IsLibrary lib) (fits : IsArchitecture lib arch) (failed : Set) where
   abbrev n : ℕ
@@ -172,9 +178,11 @@ module _ (lib : LibraryParts) (arch : ArchitectureParts) (right : IsLibrary lib)
     }
 
     -- a table of all edges, and its rows without those of the failed ones
-    pub links_without : (table : LinksParts) (fallen left : List Set) → AreLinks lib arch (has empty) table → ((a c : ℕ) → is_next fallen a c ≡ joins (live gone empty n lib.edges) a c)
-        → ((a c : ℕ) → is_next left a c ≡ (is_linked table a c && not (is_next fallen a c))) → AreLinks lib arch (has failed) (record { sources = table.sources; rows = left })
-    links_without table fallen left all falls lefts = record {
-      sources = all.sources;
-      joined = λ a c. lefts a c ∙ ap (λ b. b && not (is_next fallen a c)) (all.joined a c) ∙ ap (λ b. joins (live_edges lib arch (has empty)) a c && not b) (falls a c) ∙ still_joined a c;
-    }
+    pub links_without : (table : LinksParts) (left : List Set) → AreLinks lib arch (has empty) table
+        → ((a c : ℕ) → is_next left a c ≡ (is_linked table a c && not (joins (live gone empty 0 lib.edges) a c))) → AreLinks lib arch (has failed) (record { sources = table.sources; rows = left })
+    links_without table left all lefts =
+        let whole = joins (live_edges lib arch (has empty)) in
+        let from_n : live gone empty 0 lib.edges ≡ live gone empty n lib.edges = ap (λ (p : ℕ → Bool). present p lib.edges) (λ i e. has gone e && not ((has-empty (0 + e) ∙ sym (has-empty (n + e))) i)) in record {
+          sources = all.sources;
+          joined = λ a c. lefts a c ∙ ap (λ b. b && not (joins (live gone empty 0 lib.edges) a c)) (all.joined a c) ∙ ap (λ (es : List Edge). whole a c && not (joins es a c)) from_n ∙ still_joined a c;
+        }

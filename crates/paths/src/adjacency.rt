@@ -60,21 +60,6 @@ fn rows_of(
     rows
 }
 
-// Some rows without others, row by row.
-pub(crate) fn rows_without(
-    rows: &[CompSet; COMPONENTS],
-    gone: &[CompSet; COMPONENTS],
-) -> [CompSet; COMPONENTS]
-    ensures { (a : ℕ) (c : ℕ) → is_next result a c ≡ (is_next rows.now a c && not (is_next gone.now a c)) }
-{
-    let mut left = *rows;
-    for a in 0..COMPONENTS {
-        let row = left[a];
-        left[a] = row.minus(&gone[a]);
-    }
-    left
-}
-
 // The edge that is member v, where the first edge is member n.
 fn edge_of(v: VarId, n: u32) -> Option<EdgeId>
     ensures { MatchOption result ((e : ℕ) → e < EDGES → v.0 ≢ n + e) (λ e. (e.0 < EDGES) × (v.0 ≡ n + e.0)) }
@@ -114,14 +99,43 @@ pub(crate) fn failed_edges(lib: &Library, arch: &Architecture, failed: &MemberSe
     edges_among(failed, lib.components().len() as u32).intersection(&arch.edges())
 }
 
-// The rows of some of a library's edges.
-pub(crate) fn rows_among(lib: &Library, way: Way, chosen: &EdgeSet) -> [CompSet; COMPONENTS]
-    requires { (e : ℕ) → IsTrue (set.has chosen.now e) → e < length lib.now.edges }
+// Some rows of successors without some edges. Only these edges are looked at.
+fn rows_less(
+    rows: &[CompSet; COMPONENTS],
+    edges: &[Edge],
+    way: Way,
+    gone: &EdgeSet,
+) -> [CompSet; COMPONENTS]
+    requires few { length edges.now ≤ EDGES }
+    requires gone { (e : ℕ) → IsTrue (set.has gone.now e) → e < length edges.now }
+    requires froms { All (λ e. from_of way e < COMPONENTS) edges.now }
+    requires tos { All (λ e. to_of way e < COMPONENTS) edges.now }
     ensures { (a : ℕ) (c : ℕ) → is_next result a c
-        ≡ leads way (live chosen.now set.empty (length lib.now.components) lib.now.edges) a c }
+        ≡ (is_next rows.now a c && not (leads way (live gone.now set.empty 0 edges.now) a c)) }
 {
-    let n = lib.components().len() as u32;
-    rows_of(lib.edges(), way, chosen, &MemberSet::new(), n)
+    let mut left = *rows;
+    for e in gone.members() {
+        let (from, to) = ends(&edges[e.0 as usize], way);
+        let row = left[from.0 as usize];
+        let mut one = CompSet::new();
+        one.put(to);
+        left[from.0 as usize] = row.minus(&one);
+    }
+    left
+}
+
+// Some rows of a library's edges without some of these.
+pub(crate) fn rows_without(
+    rows: &[CompSet; COMPONENTS],
+    lib: &Library,
+    way: Way,
+    gone: &EdgeSet,
+) -> [CompSet; COMPONENTS]
+    requires { (e : ℕ) → IsTrue (set.has gone.now e) → e < length lib.now.edges }
+    ensures { (a : ℕ) (c : ℕ) → is_next result a c
+        ≡ (is_next rows.now a c && not (leads way (live gone.now set.empty 0 lib.now.edges) a c)) }
+{
+    rows_less(rows, lib.edges(), way, gone)
 }
 
 // The rows of an architecture's edges outside `failed`.

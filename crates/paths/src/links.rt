@@ -7,7 +7,7 @@ ghost use Rattle.arch_model.specs.Path.{IsPath, LeadsTo};
 ghost use Rattle.arch_model.specs.declared.limits.TheConstants.{COMPONENTS};
 ghost use Rattle.paths.specs.Links.{is_linked, AreLinks};
 
-use crate::adjacency::{Way, failed_edges, live_rows, rows_among, rows_without};
+use crate::adjacency::{Way, failed_edges, live_rows, rows_without};
 use crate::searching::{leading_to, reached_from_sources};
 use crate::spreading::entered;
 use crate::standing::sources_of;
@@ -95,8 +95,8 @@ impl Links {
         }
         Links {
             sources: self.sources,
-            down: rows_without(&self.down, &rows_among(lib, Way::Down, &gone)),
-            up: rows_without(&self.up, &rows_among(lib, Way::Up, &gone)),
+            down: rows_without(&self.down, lib, Way::Down, &gone),
+            up: rows_without(&self.up, lib, Way::Up, &gone),
         }
     }
 

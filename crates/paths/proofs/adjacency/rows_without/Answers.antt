@@ -1,17 +1,15 @@
-use Rattle.std.proofs.Common.{refl, ap, ◌∙◌, arith}
-use Rattle.std.proofs.Math.ListN.{set, length-set}
-use Rattle.paths.proofs.FailedEdges.{none_without, one_without, all_without}
+use Rattle.std.proofs.Common.{ap, ◌∙◌, ◌&&◌, not}
+use Rattle.arch_model.specs.Set.{empty}
+use Rattle.paths.specs.Inner.Spread.{leads, live}
+use Rattle.paths.specs.Links.{is_next}
+use Rattle.paths.proofs.Searches.{froms, tos}
 use Rattle.paths.proofs.adjacency.rows_without.Goals as goal
 
-pub loop-a-init : goal.loop-a-init
-loop-a-init c = record { whole = omega arith; so_far = none_without c.args.rows.now c.args.gone.now _ refl }
+pub rows_less-requires-clause-froms : goal.rows_less-requires-clause-froms
+rows_less-requires-clause-froms c = froms c.args.lib.now c.edges.ensures.library c.edges.result.now c.edges.ensures.rows c.args.way
 
-pub loop-a-preserved : goal.loop-a-preserved
-loop-a-preserved c = record {
-  whole = length-set c.loop-a.left c.loop-a.a c.minus.result ∙ c.loop-a.invariant.whole;
-  so_far = one_without c.args.rows.now c.args.gone.now c.loop-a.left _ c.loop-a.a c.index-left-a.result c.index-gone-a.result
-      (omega (arith, c.loop-a.invariant.whole, c.loop-a-test.true)) (omega (arith, c.type_inv.gone, c.loop-a-test.true)) (ap (set c.loop-a.left c.loop-a.a) c.minus.ensures) c.loop-a.invariant.so_far;
-}
+pub rows_less-requires-clause-tos : goal.rows_less-requires-clause-tos
+rows_less-requires-clause-tos c = tos c.args.lib.now c.edges.ensures.library c.edges.result.now c.edges.ensures.rows c.args.way
 
 pub returns : goal.returns
-returns c = all_without c.args.rows.now c.args.gone.now c.loop-a.left c.loop-a.a (omega (arith, c.loop-a-test.false)) c.loop-a.invariant.so_far
+returns c a d = c.rows_less.ensures a d ∙ ap (λ es. is_next c.args.rows.now a d && not (leads c.args.way (live c.args.gone.now empty 0 es) a d)) c.edges.ensures.rows

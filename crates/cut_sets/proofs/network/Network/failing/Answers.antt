@@ -1,4 +1,4 @@
-use Rattle.std.proofs.Common.{sym, subst}
+use Rattle.std.proofs.Common.{subst}
 use Rattle.arch_model.specs.Set.{has}
 use Rattle.paths.specs.Links.{AreLinks}
 use Rattle.cut_sets.specs.Inner.Upcoming.{NetworkParts}

@@ -1,11 +1,10 @@
-use Rattle.std.proofs.Common.{◌≡◌, ◌<◌, ◌∙◌, ℕ, true, false, sym, ap, subst, inl, inr, length, not}
+use Rattle.std.proofs.Common.{◌≡◌, ◌∙◌, true, false, sym, ap, inl, inr, length, not}
 use Rattle.std.proofs.lemmas.Bool.{cases_lt}
 use Rattle.arch_model.specs.Set.{Set, has}
 use Rattle.arch_model.specs.Path.{parts}
 use Rattle.cut_sets.specs.Inner.Upcoming.{NetworkParts}
 use Rattle.cut_sets.proofs.Beyond.{spent_wider}
 use Rattle.cut_sets.proofs.Places.{chosen_has}
-use Rattle.cut_sets.proofs.Steps.{members_small}
 use Rattle.cut_sets.proofs.Spent.{no_sink, uncut_path}
 use Rattle.cut_sets.proofs.network.Network.next_useful.Goals as goal
 

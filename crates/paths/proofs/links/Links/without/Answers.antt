@@ -13,5 +13,5 @@ returns-then-eq c =
 pub returns : goal.returns
 returns c =
     links_without c.args.lib.now c.args.arch.now c.failed_edges-gone.ensures.library c.requires.architecture c.args.failed.now c.failed_edges-gone.result c.failed_edges-gone.ensures.edges
-    (record { sources = c.self.inside.sources; rows = c.self.inside.down }) c.rows_among.result c.rows_without.result
-    (subst (AreLinks c.args.lib.now c.args.arch.now (has empty)) (sym c.self.view_is) c.requires.all) c.rows_among.ensures c.rows_without.ensures
+    (record { sources = c.self.inside.sources; rows = c.self.inside.down }) c.rows_without.result
+    (subst (AreLinks c.args.lib.now c.args.arch.now (has empty)) (sym c.self.view_is) c.requires.all) c.rows_without.ensures
