@@ -1,11 +1,9 @@
 -- The chosen cut sets of members and of components: a redundancy cut's two sets are right, and nothing of the candidate leads out.
-use Rattle.std.proofs.Common.{◌≡◌, ℕ, ◌+◌, ◌<◌, Bool, true, false, not, ◌&&◌, ◌||◌, nat_eq, List, [], ◌∷◌, filter, length, Option, Some, None, refl, sym, ap, subst, ◌∙◌, arith, inl, inr, eq-eqb}
+use Rattle.std.proofs.Common.{◌≡◌, ℕ, ◌+◌, ◌<◌, Bool, true, false, not, ◌&&◌, ◌||◌, nat_eq, List, [], ◌∷◌, filter, length, Some, refl, sym, ap, subst, ◌∙◌, arith, inl, inr, eq-eqb}
 use Rattle.std.specs.Prelude.{slice_get}
 use Rattle.std.specs.List.{range_with_len}
-use Rattle.std.specs.Option.{option_map_or}
 use Rattle.std.proofs.lemmas.Option.{slice_get_within}
 use Rattle.std.proofs.lemmas.Bool.{eqb-true}
-use Rattle.arch_model.specs.declared.template.Component.{Component}
 use Rattle.arch_model.specs.declared.template.Edge.{Edge}
 use Rattle.arch_model.specs.declared.library.Requirement.{Requirement}
 use Rattle.arch_model.specs.Set.{Set, has, members_below}
@@ -13,10 +11,11 @@ use Rattle.arch_model.specs.Parts.{LibraryParts, ArchitectureParts}
 use Rattle.arch_model.specs.Library.{IsLibrary}
 use Rattle.arch_model.specs.Architecture.{IsArchitecture}
 use Rattle.arch_model.specs.Member.{is_in, is_present, member_count, member_numbers}
-use Rattle.arch_model.specs.Path.{is_source, is_source_role, LeadsTo, Parts}
+use Rattle.arch_model.specs.Path.{is_source, LeadsTo, Parts}
 use Rattle.arch_model.specs.Weight.{product_of, weight_of}
 use Rattle.arch_model.proofs.Members.{and_left, and_right, and_both, or_left, or_right, or_cases, not_true, bool_cases, false_if, is_in-filter, is_in-range}
 use Rattle.arch_model.proofs.Ranges.{edge_tails, edge_heads}
+use Rattle.paths.proofs.SpreadLaws.{source_below}
 use Rattle.rows.proofs.VectorLaws.{at_component, at_edge}
 use Rattle.redundancy_cut.specs.RightCut.{IsRightRedundancy, IsRightNoGood}
 use Rattle.redundancy_cut.specs.CutRow.{set_of_numbers, is_edge_where, leads_out}
@@ -41,14 +40,6 @@ test_of n t c h = and_left (t c) (is_in (range_with_len 0 n) c) (sym (in_compone
 
 has_by : (n : ℕ) (t : ℕ → Bool) (c : ℕ) → c < n → t c ≡ true → has (set_of_numbers (filter t (range_with_len 0 n))) c ≡ true
 has_by n t c low h = in_components n t c ∙ and_both (t c) (is_in (range_with_len 0 n) c) h (is_in-range 0 n c (omega arith) (omega (arith, low)))
-
--- a source is a component
-is_there : (o : Option Component) → option_map_or (λ row. is_source_role row.role) o false ≡ true → (row : Component) × (o ≡ Some row)
-is_there None h = absurd (let e : false ≡ true = h in cc)
-is_there (Some row) h = (row, refl)
-
-pub source_low : (lib : LibraryParts) (c : ℕ) → is_source lib c ≡ true → c < length lib.components
-source_low lib c h = let row = is_there (slice_get lib.components c) h in slice_get_within lib.components c row.0 row.1
 
 -- a member that is present, as a component and as an edge
 pub here_component : (lib : LibraryParts) (arch : ArchitectureParts) (c : ℕ) → c < length lib.components → is_present lib arch c ≡ true → has arch.comps c ≡ true
@@ -119,7 +110,7 @@ module _ (lib : LibraryParts) (right : IsLibrary lib) (arch : ArchitectureParts)
   -- a source and an edge of the candidate that lead out would reach the sink past the set
   no_source : (c : ℕ) → is_source lib c ≡ true → not (has set c) ≡ true → has far c ≡ false → has arch.comps c ≡ true → ⊥
   no_source c source out none here =
-      let l = exact_to c (near c (source_low lib c source) out none) in
+      let l = exact_to c (near c (source_below lib c source) out none) in
       cuts (c ∷ l.0) (record { present = all_present lib arch fits (has set) sink c l.0 l.1 here; source = source; leads = l.1 })
 
   no_edge : (k : ℕ) (e : Edge) → slice_get lib.edges k ≡ Some e → not (has set (length lib.components + k)) ≡ true → has far e.tail.0 ≡ true
@@ -142,7 +133,7 @@ module _ (lib : LibraryParts) (right : IsLibrary lib) (arch : ArchitectureParts)
       elim (or_cases (is_source lib v && not (has far v)) (is_edge_where lib test v) (and_right (not (has set v)) ((is_source lib v && not (has far v)) || is_edge_where lib test v) leads)) [
         | inl source ↦
             let is = and_left (is_source lib v) (not (has far v)) source in
-            no_source v is out (false_if (has far v) (not_true (has far v) (and_right (is_source lib v) (not (has far v)) source))) (here_component lib arch v (source_low lib v is) here)
+            no_source v is out (false_if (has far v) (not_true (has far v) (and_right (is_source lib v) (not (has far v)) source))) (here_component lib arch v (source_below lib v is) here)
         | inr edge ↦
             let e = edge_member lib test v edge in
             no_edge e.number e.edge e.at (ap (λ w. not (has set w)) e.is ∙ out)

@@ -4,14 +4,14 @@ ghost use Rattle.arch_model.specs.Path as path;
 ghost use Rattle.arch_model.specs.Set.{has};
 ghost use Rattle.redundancy_cut.specs.CutRow as row;
 
-use arch_model::{CompId, CompSet, Edge, Library, MemberSet, Role, VarId};
+use arch_model::{CompId, CompSet, Edge, Library, MemberSet, VarId};
 
 // Whether member v is a source.
 fn is_source(lib: &Library, v: VarId) -> bool
     ensures { result ≡ path.is_source lib.now v.0 }
 {
     match lib.components().get(v.0 as usize) {
-        Some(component) => matches!(component.role, Role::Source),
+        Some(component) => paths::is_source(component),
         None => false,
     }
 }
