@@ -1,0 +1,69 @@
+//! Laws of the log's text, each the contract of a function without a body.
+ghost use Rattle.std.specs.Prelude.{◌≡◌, ℕ, ◌≤◌, ◌++◌, List, length};
+ghost use Rattle.std.specs.List.{flat_map, AllByRecursion};
+ghost use Rattle.rows.specs.Parts.{ProblemParts};
+ghost use Rattle.search_core.specs.declared.entry.Entry.{Entry};
+ghost use Rattle.search_core.specs.declared.answer.Answer.{Answer};
+ghost use Rattle.proof_log.specs.declared.log_line.TheConstants.{LINE_BYTES};
+ghost use Rattle.proof_log.specs.declared.log_line.LineFault.{LineFault};
+ghost use Rattle.proof_log.specs.declared.log_line.LogLine.{LogLine};
+ghost use Rattle.proof_log.specs.Line.{Line};
+ghost use Rattle.proof_log.specs.Fault.{IsInRange, ListsAscend, BreaksNone, BreaksFirst};
+ghost use Rattle.proof_log.specs.Value.{log_line, text_of, ended, header_text, entry_text, closing_text};
+ghost use Rattle.proof_log.specs.Log.{IsLoggable, log_lines, log_text_of, Accepts};
+
+/// Each line has one spelling: its text determines it.
+pub fn each_line_has_one_spelling()
+    ensures { (x y : Line ℕ) → IsInRange x → ListsAscend x → IsInRange y → ListsAscend y
+        → text_of x ≡ text_of y → x ≡ y }
+{}
+
+/// The text of what can be logged determines it.
+pub fn a_text_determines_its_value()
+    ensures { (x y : LogLine) → IsLoggable x → IsLoggable y
+        → text_of (log_line x) ≡ text_of (log_line y) → x ≡ y }
+{}
+
+/// What can be logged breaks no rule of a line, unless it is too long.
+pub fn what_is_written_breaks_no_rule()
+    ensures { (x : LogLine) → IsLoggable x → length (text_of (log_line x)) ≤ LINE_BYTES
+        → BreaksNone (text_of (log_line x)) }
+{}
+
+/// A line breaks no rule, or exactly one of them first.
+pub fn a_line_breaks_no_rule_or_one_first()
+    ensures never_two { (line : List ℕ) (a b : LineFault)
+        → BreaksFirst line a → BreaksFirst line b → a ≡ b }
+    ensures never_both { (line : List ℕ) (a : LineFault)
+        → BreaksNone line → BreaksFirst line a → ⊥ }
+    ensures some { (line : List ℕ)
+        → ((a : LineFault) → BreaksFirst line a → ⊥) → BreaksNone line }
+{}
+
+/// The text of a log is its header, the lines of its entries and its closing line, so it is what is
+/// written by these calls one after another.
+pub fn a_log_is_written_line_by_line()
+    ensures { (problem : ProblemParts) (limit : ℕ) (entries : List Entry) (answer : Answer)
+        (branchings cuts : ℕ)
+        → log_text_of problem limit entries answer branchings cuts
+        ≡ header_text problem limit ++ (flat_map (λ e. ended (entry_text e)) entries
+        ++ ended (closing_text answer branchings cuts)) }
+{}
+
+/// The text of a log determines its limit, its entries and its closing line.
+pub fn a_text_determines_its_log()
+    ensures { (problem : ProblemParts) (limit limit' : ℕ) (entries entries' : List Entry)
+        (answer answer' : Answer) (branchings branchings' cuts cuts' : ℕ)
+        → AllByRecursion IsLoggable (log_lines problem limit entries answer branchings cuts)
+        → AllByRecursion IsLoggable (log_lines problem limit' entries' answer' branchings' cuts')
+        → log_text_of problem limit entries answer branchings cuts
+        ≡ log_text_of problem limit' entries' answer' branchings' cuts'
+        → (limit ≡ limit') × (entries ≡ entries') × (answer ≡ answer')
+        × (branchings ≡ branchings') × (cuts ≡ cuts') }
+{}
+
+/// A log passes with one answer.
+pub fn a_log_passes_with_one_answer()
+    ensures { (problem : ProblemParts) (bytes : List ℕ) (a b : Answer)
+        → Accepts problem bytes a → Accepts problem bytes b → a ≡ b }
+{}
