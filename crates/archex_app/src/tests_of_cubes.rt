@@ -261,7 +261,11 @@ fn looked_at(
 // an edge which costs nothing wants its source, so that it is branched on first.
 #[test]
 fn bounds_save_cubes(rt: HostRuntime) -> Result<(), Fail> {
-    let cases: [(&[u8], u32, u32); 3] = [(HALL_ON_BOTH_UPS, 3, 3), (TWELVE_PAIRS, 25, 25), (FED, 5, 3)];
+    let cases: [(&[u8], u32, u32); 3] = [
+        (HALL_ON_BOTH_UPS, 3, 3),
+        (TWELVE_PAIRS, 25, 25),
+        (FED, 5, 3),
+    ];
     for (library, ascent, stronger) in cases {
         let problem = problem(&rt, library)?;
         assert_eq!(rt; looked_at(&rt, &problem, false)?, ascent);

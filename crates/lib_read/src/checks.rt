@@ -114,7 +114,8 @@ fn is_out_of_range(key: &Key, row: &Value, top: &Value) -> bool
 fn is_wrong_kind(key: &Key, row: &Value) -> bool
     ensures { result ≡ spec.is_wrong_kind key.now.meaning key.now.name.now (view row.now) }
 {
-    row.get(key.name).is_some_and(|value| !fits_meaning(key.meaning, value))
+    row.get(key.name)
+        .is_some_and(|value| !fits_meaning(key.meaning, value))
 }
 
 // Whether a key of a row has a fault of a class.

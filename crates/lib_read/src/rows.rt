@@ -37,7 +37,9 @@ pub(crate) fn number_or(absent: u64, row: &Value, key: &str) -> u64
 fn role(row: &Value) -> Role
     ensures { result ≡ (rows.type_row (view row.now)).role }
 {
-    text_at(row, "role").and_then(role_of).unwrap_or(Role::Middle)
+    text_at(row, "role")
+        .and_then(role_of)
+        .unwrap_or(Role::Middle)
 }
 
 fn type_row(row: &Value) -> TypeRow

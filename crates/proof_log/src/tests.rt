@@ -110,7 +110,10 @@ fn numbers_of(alloc: Global, line: &[u8]) -> Option<(u32, u32)> {
 #[test]
 fn header_lines_say_their_numbers(rt: HostRuntime) {
     for (line, first, second) in HEADERS {
-        assert_eq!(rt; numbers_of(rt.alloc(), line.as_bytes()), Some((first, second)));
+        assert_eq!(rt;
+            numbers_of(rt.alloc(), line.as_bytes()),
+            Some((first, second))
+        );
     }
 }
 
@@ -188,7 +191,10 @@ const FAULTS: [(&str, LineFault); 72] = [
     ("take 0 0 0 007", LineFault::Number),
     ("take 4294967296 0 0 none", LineFault::Number),
     ("take 0 0 0 9223372036854775808", LineFault::Number),
-    ("take 0 0 0 99999999999999999999999999999999", LineFault::Number),
+    (
+        "take 0 0 0 99999999999999999999999999999999",
+        LineFault::Number,
+    ),
     ("accept 0 0 9223372036854775808", LineFault::Number),
     ("prune 0 1 - u*0", LineFault::Number),
     ("prune 0 1 - u*1000000000001", LineFault::Number),
@@ -203,7 +209,10 @@ const FAULTS: [(&str, LineFault); 72] = [
     ("publish 0 2 nogood 0 1,02", LineFault::Number),
     ("answer optimal 01 0 0", LineFault::Number),
     ("answer nodelimit none 0 4294967296", LineFault::Number),
-    ("answer nodelimit 9223372036854775808 0 0", LineFault::Number),
+    (
+        "answer nodelimit 9223372036854775808 0 0",
+        LineFault::Number,
+    ),
     ("reopen 4294967296", LineFault::Number),
     ("publish 0 2 redundancy 0 1,0 -", LineFault::Order),
     ("publish 0 2 redundancy 0 1,1 -", LineFault::Order),
