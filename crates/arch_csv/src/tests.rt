@@ -2,7 +2,7 @@
 ghost use Rattle.std.specs.Prelude.{◌≡◌};
 ghost use Rattle.arch_model.specs.Name.{IsTypeName};
 
-use crate::{ArchError, LARGEST, read_architecture, write_architecture};
+use crate::{ArchError, read_architecture, write_architecture};
 use arch_model::{Library, LinkRow, Name, Role, TypeRow, is_library};
 use std::alloc::Global;
 use std::process::Abort;
@@ -196,7 +196,7 @@ fn bytes_are_told_apart(rt: HostRuntime) -> Result<(), Fail> {
         assert_eq!(rt; reading(rt.alloc(), &lib, file)?.as_str(), fault);
     }
     let mut blank = Vec::new(rt.alloc());
-    blank.resize(LARGEST, b'\n')?;
+    blank.resize(1_048_576, b'\n')?;
     assert_eq!(rt; reading(rt.alloc(), &lib, &blank)?.as_str(), "1 Fields");
     blank.push(b'\n')?;
     assert_eq!(rt; reading(rt.alloc(), &lib, &blank)?.as_str(), "0 TooLarge");

@@ -41,8 +41,9 @@ pub fn every_step_keeps_the_rule<V: Held>()
 
 /// A turn changes the slot twice, by exchanges that are no steps of the table: the value is taken out
 /// of the slot, and put back. Each needs the slot to be lent to its seat, and while a seat is in a
-/// turn, the slot is lent and no other seat is in a turn. So what stands in the slot meanwhile is in
-/// no fact of the rule, and no other seat can see it: both exchanges keep the rule as it is.
+/// turn, the slot is lent and no other seat is in a turn. From that a reader concludes that both
+/// exchanges leave the rule as it is: what stands in the slot meanwhile is in no fact of the rule,
+/// and no other seat can see it.
 pub fn the_slot_is_lent_in_a_turn<V: Held>()
     ensures lent { (s : State (Option V) (SeatView V.About)) (between : Between V.about V.count s) (i : ℕ)
         (v : SeatView V.About) → Sits between.topic s.views i v → v.in_turn ≡ true → s.homes ≡ maybe.none ∷ [] }
