@@ -18,8 +18,7 @@
 //! best lies in the cube of a live node, each cut holds in all of them, a history between two
 //! changes of the limit is bounded in length, and an answer is right.
 //!
-//! It stands on `rows`, `binary_program`, `redundancy_cut` and `incumbent`, and its tests on
-//! `template` and `sink_weight`.
+//! It stands on `rows`, `binary_program`, `redundancy_cut` and `incumbent`.
 #![tactic(auto)]
 
 mod answer;
@@ -51,6 +50,3 @@ pub use rule::Rule;
 pub use sought::Sought;
 pub use state::{State, start};
 pub use stepping::{StepError, step};
-
-#[cfg(test)]
-mod tests;
