@@ -19,7 +19,7 @@ use Rattle.arch_csv.specs.declared.item.Item.{Item}
 use Rattle.arch_csv.specs.declared.item.Item.TheVariants.{Component, Edge}
 use Rattle.arch_csv.specs.Records.{Record, component_alone, component_named, edge_between, edge_named, item_of, item_named, edge_leads}
 use Rattle.arch_csv.specs.Inner.Draft.{IsItem}
-use Rattle.arch_csv.proofs.EdgesDiffer.{edges_differ}
+use Rattle.template.proofs.EdgesDiffer.{edges_differ}
 
 -- the only number of a range that passes a test
 only_one : (p : ℕ → Bool) (a n c : ℕ) → a ≤ c → c < a + n → p c ≡ true → ((d : ℕ) → a ≤ d → d < a + n → p d ≡ true → d ≡ c) → find p (range_with_len a n) ≡ Some c

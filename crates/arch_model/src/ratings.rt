@@ -1,9 +1,11 @@
-// What a component is an instance of, and what it supplies and demands.
+// What a component is an instance of, whether it is a source, and what it supplies and demands.
 ghost use Rattle.std.specs.Prelude.{◌≡◌, ◌≤◌, ◌^◌};
+ghost use Rattle.arch_model.specs.Path as path;
 ghost use Rattle.arch_model.specs.Pattern as spec;
 
 use crate::library::Library;
 use crate::sets::CompId;
+use crate::template::Role;
 
 /// Whether component c is an instance of type t, both by number; no where there is no component c.
 pub fn is_instance(lib: &Library, t: u32, c: CompId) -> bool
@@ -12,6 +14,15 @@ pub fn is_instance(lib: &Library, t: u32, c: CompId) -> bool
     lib.components()
         .get(c.0 as usize)
         .is_some_and(|component| component.of == t)
+}
+
+/// Whether component c is a source, where paths begin; no where there is no component c.
+pub fn is_source(lib: &Library, c: CompId) -> bool
+    ensures { result ≡ path.is_source lib.now c.0 }
+{
+    lib.components()
+        .get(c.0 as usize)
+        .is_some_and(|component| matches!(component.role, Role::Source))
 }
 
 /// What component c supplies, in units of supply; 0 where there is no component c.

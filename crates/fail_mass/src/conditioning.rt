@@ -1,8 +1,8 @@
 // Conditioning on the members that are undecided, one by one.
 ghost use Rattle.std.specs.Prelude.{◌≡◌, ℕ, ◌<◌, ◌≤◌, ◌^◌, false, IsTrue};
 ghost use Rattle.std.specs.Option.{option_map};
-ghost use Rattle.arch_model.specs.Inner.Sets.{IsNext};
 ghost use Rattle.arch_model.specs.Set as set;
+ghost use Rattle.arch_model.specs.Set.{IsNext};
 ghost use Rattle.fail_mass.specs.Inner.Networks.{IsNetwork, AreMembers, is_parted, enclosure_from};
 
 use crate::mixing::{MILLION, both, settled};

@@ -1,10 +1,8 @@
 -- Edges that have failed: their numbers, their rows, and a table without them.
-use Rattle.std.proofs.Common.{◌≡◌, ◌≢◌, ℕ, ◌+◌, ◌<◌, ◌≤◌, Bool, true, false, not, ◌&&◌, ◌||◌, nat_eq, List, [], ◌∷◌, length, get_or, refl, sym, ap, ◌∙◌, arith, inl, inr, ltb, get_or-set_same, get_or-set_other}
-use Rattle.std.proofs.lemmas.Option.{slice_get_cases}
+use Rattle.std.proofs.Common.{◌≡◌, ◌≢◌, ℕ, ◌+◌, ◌<◌, ◌≤◌, Bool, true, false, not, ◌&&◌, ◌||◌, nat_eq, List, [], ◌∷◌, length, get_or, refl, sym, ap, ◌∙◌, arith, inl, inr, get_or-set_same, get_or-set_other}
 use Rattle.std.specs.Prelude.{IsTrue}
 use Rattle.std.specs.List.{list_any}
-use Rattle.std.specs.Option.{unwrap_or}
-use Rattle.std.proofs.lemmas.Bool.{eqb-true, eq-eqb, lt-ltb, le-ltb}
+use Rattle.std.proofs.lemmas.Bool.{eqb-true, eq-eqb}
 use Rattle.std.proofs.lemmas.Bool.Decides.{eqb_tells}
 use Rattle.std.proofs.Math.ListN.{set}
 use Rattle.arch_model.specs.declared.limits.TheConstants.{EDGES, MEMBERS}
@@ -22,9 +20,9 @@ use Rattle.paths.specs.declared.adjacency.Way.{Way}
 use Rattle.paths.specs.declared.adjacency.Way.TheVariants.{Down}
 use Rattle.paths.specs.Inner.Spread.{from_of, to_of, leads, live}
 use Rattle.paths.specs.Links.{LinksParts, is_next, is_linked, AreLinks}
-use Rattle.paths.proofs.EdgesDiffer.{edges_differ}
-use Rattle.paths.proofs.Loops.{or_none, or_assoc}
-use Rattle.paths.proofs.SpreadLaws.{absorb_left, below_step, next_at, next_get, joins_by, leads_members}
+use Rattle.template.proofs.EdgesDiffer.{edges_differ}
+use Rattle.paths.proofs.Loops.{or_assoc}
+use Rattle.paths.proofs.SpreadLaws.{next_at, next_get, joins_by, leads_members}
 
 and_yes : (b : Bool) → (b && true) ≡ b
 and_yes true = refl

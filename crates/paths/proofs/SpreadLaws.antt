@@ -1,29 +1,27 @@
 -- Steps of the loops over components and edges.
-use Rattle.std.proofs.Common.{eq-eqb, slice_get, map, filter, subst, ◌++◌, ◌≡◌, ℕ, zero, suc, ◌+◌, ◌<◌, ◌≤◌, Bool, true, false, cond, not, ◌&&◌, ◌||◌, nat_eq, List, [], ◌∷◌, length, get_or, replicate, refl, sym, ap, ◌∙◌, arith, inl, inr, ◌≢◌, ltb, add-one, get_or-set_same, get_or-set_other}
+use Rattle.std.proofs.Common.{eq-eqb, map, filter, subst, ◌++◌, ◌≡◌, ℕ, zero, suc, ◌+◌, ◌<◌, ◌≤◌, Bool, true, false, cond, not, ◌&&◌, ◌||◌, nat_eq, List, [], ◌∷◌, length, get_or, replicate, refl, sym, ap, ◌∙◌, arith, inl, inr, ◌≢◌, ltb, add-one, get_or-set_same, get_or-set_other}
 use Rattle.std.specs.List.{list_any, range_with_len, enumerate_from}
 use Rattle.std.specs.Prelude.{IsTrue, ◌↔◌}
-use Rattle.std.specs.Option.{option_map_or, unwrap_or}
+use Rattle.std.specs.Option.{unwrap_or}
 use Rattle.std.proofs.lemmas.List.Folds.{list_any-append}
-use Rattle.std.proofs.lemmas.Option.{slice_get_cases, slice_get-get_or, unwrap_or-slice_get}
+use Rattle.std.proofs.lemmas.Option.{slice_get-get_or, unwrap_or-slice_get}
 use Rattle.std.proofs.lemmas.Bool.{eqb-true, lt-ltb, ltb-true, le-ltb}
 use Rattle.std.proofs.lemmas.Bool.Decides.{eqb_tells}
 use Rattle.std.proofs.Math.Bool.{and_comm}
 use Rattle.std.proofs.Math.ListN.{set}
 use Rattle.std.proofs.lemmas.List.FromFn.{length-range_with_len}
 use Rattle.arch_model.specs.declared.limits.TheConstants.{COMPONENTS, MEMBERS}
-use Rattle.arch_model.specs.declared.template.Component.{Component}
 use Rattle.arch_model.specs.declared.template.Edge.{Edge}
 use Rattle.arch_model.specs.Set.{Set, has, put, empty, union, intersection, minus, members_below}
 use Rattle.arch_model.specs.declared.sets.CompId.{CompId}
 use Rattle.arch_model.specs.declared.sets.EdgeId.{EdgeId}
 use Rattle.std.proofs.lemmas.List.{map-append}
 use Rattle.arch_model.specs.Member.{is_in}
-use Rattle.arch_model.specs.Parts.{LibraryParts}
-use Rattle.arch_model.specs.Path.{is_source, is_source_role, reached_within}
+use Rattle.arch_model.specs.Path.{reached_within}
 use Rattle.arch_model.specs.Inner.Walks.{IsWalk}
 use Rattle.arch_model.proofs.Members.{and_left, and_right, and_both, bool_cases, or_left, or_right, or_cases, false_if, not_true, same_test, some_of, any_of, is_in-range, is_in-filter, is_in-members, has-from_members}
 use Rattle.arch_model.proofs.SetLaws.{has-put, has-empty, has-union, has-intersection, has-minus}
-use Rattle.arch_model.proofs.Ranges.{blank_edge, blank_component}
+use Rattle.arch_model.proofs.Ranges.{blank_edge}
 use Rattle.arch_model.proofs.Walks.{level_next, level_first, level_inside, IsClosed, reached_exact, closed_at_last}
 use Rattle.paths.specs.declared.adjacency.Way.{Way}
 use Rattle.paths.specs.declared.adjacency.Way.TheVariants.{Down, Up}
@@ -87,11 +85,6 @@ collect_more p found after i b is so_far step c =
 pub collect_all : (p : ℕ → Bool) (found : Set) (i n : ℕ) → n ≤ i → ((c : ℕ) → p c ≡ true → c < n) → ((c : ℕ) → has found c ≡ (ltb c i && p c)) → (c : ℕ) → has found c ≡ p c
 collect_all p found i n all small found_is c = found_is c ∙ absorb_left (ltb c i) (p c) (λ h. let short : c < n = small c h in lt-ltb c i (omega arith))
 
-pub source_here : (lib : LibraryParts) (components : List Component) (i : ℕ) → components ≡ lib.components → i < length components → is_source_role (get_or components i blank_component).role ≡ is_source lib i
-source_here lib components i is here =
-    sym (ap (λ o. option_map_or (λ (row : Component). is_source_role row.role) o false) (slice_get-get_or components i blank_component here))
-    ∙ ap (λ (l : List Component). option_map_or (λ (row : Component). is_source_role row.role) (slice_get l i) false) is
-
 -- a set of components without those among some failed members
 pub left_out : (comps failed gone result : Set) (n c : ℕ) → n ≤ COMPONENTS → (has comps c ≡ true → c < n) → has gone c ≡ (is_in (members_below failed MEMBERS) c && ltb c n) → result ≡ minus comps gone
     → has result c ≡ (has comps c && not (has failed c))
@@ -106,13 +99,6 @@ left_out comps failed gone result n c few small gone_is is =
     (λ h. and_both here (not (has gone c)) (and_left here (not (has failed c)) h)
     (ap not (false_if (has gone c) (λ g.
     not_true (has failed c) (and_right here (not (has failed c)) h) (has-from_members failed MEMBERS c (and_left listed (ltb c n) (sym gone_is ∙ g)))))))
-
--- a source is a component
-pub source_below : (lib : LibraryParts) (c : ℕ) → is_source lib c ≡ true → c < length lib.components
-source_below lib c h = elim (slice_get_cases lib.components c).1 [
-  | inl some ↦ some.1
-  | inr none ↦ absurd (let e : false ≡ true = sym (ap (λ o. option_map_or (λ (row : Component). is_source_role row.role) o false) none.1) ∙ h in cc)
-]
 
 -- with the test known
 pub put_when : (before after : Set) (h c : ℕ) (b : Bool) → b ≡ true → after ≡ put before h → has after c ≡ (has before c || (b && nat_eq h c))

@@ -11,7 +11,9 @@
 //! makes a row of successors for each component, as a mask; then each round joins the rows of what
 //! the round before reached first, and the search ends with the round that adds nothing. It takes
 //! no memory: the rows, a mask for each of up to 64 components, lie on the stack. A call costs a
-//! look at each present edge and each component.
+//! look at each present edge and each component. Who asks much of one architecture makes a table of
+//! its edges once (`links_of`), takes failed edges out of a copy of it (`without`), and asks over
+//! that.
 //!
 //! Stands on `arch_model`.
 #![tactic(auto)]
@@ -25,7 +27,6 @@ mod standing;
 
 pub use links::{Links, ancestors_over, links_of, reach_over};
 pub use reaching::{ancestors, parted, reach};
-pub use standing::is_source;
 
 #[cfg(test)]
 mod tests;

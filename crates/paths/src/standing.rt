@@ -5,23 +5,16 @@ ghost use Rattle.arch_model.specs.Member.{is_in};
 ghost use Rattle.arch_model.specs.Path as path;
 ghost use Rattle.arch_model.specs.declared.limits.TheConstants.{COMPONENTS, MEMBERS};
 
-use arch_model::{CompId, CompSet, Component, Library, MemberSet, Role};
-
-/// Whether a component is a source, where paths begin.
-pub fn is_source(component: &Component) -> bool
-    ensures { result ≡ path.is_source_role component.now.role }
-{
-    matches!(component.role, Role::Source)
-}
+use arch_model::{CompId, CompSet, Library, MemberSet, is_source};
 
 // The sources of a library.
 pub(crate) fn sources_of(lib: &Library) -> CompSet
     ensures { (c : ℕ) → set.has result c ≡ path.is_source lib.now c }
 {
     let mut found = CompSet::new();
-    for (i, component) in lib.components().iter().enumerate() {
-        if is_source(component) {
-            found.put(CompId(i as u32));
+    for i in 0..lib.components().len() as u32 {
+        if is_source(lib, CompId(i)) {
+            found.put(CompId(i));
         }
     }
     found

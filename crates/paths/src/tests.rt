@@ -100,6 +100,8 @@ fn expect(rt: &impl Abort, lib: &Library, arch: &Architecture, sink: u32, cases:
         let links = links_of(lib, arch, &failed);
         assert!(rt; reach_over(lib, arch, &links, &failed) == comps(case.reached));
         assert!(rt; ancestors_over(lib, arch, CompId(sink), &links, &failed) == comps(case.above));
+        let left = links_of(lib, arch, &MemberSet::new()).without(lib, arch, &failed);
+        assert!(rt; reach_over(lib, arch, &left, &failed) == comps(case.reached));
     }
 }
 

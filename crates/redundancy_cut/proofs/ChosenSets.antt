@@ -15,7 +15,7 @@ use Rattle.arch_model.specs.Path.{is_source, LeadsTo, Parts}
 use Rattle.arch_model.specs.Weight.{product_of, weight_of}
 use Rattle.arch_model.proofs.Members.{and_left, and_right, and_both, or_left, or_right, or_cases, not_true, bool_cases, false_if, is_in-filter, is_in-range}
 use Rattle.arch_model.proofs.Ranges.{edge_tails, edge_heads}
-use Rattle.paths.proofs.SpreadLaws.{source_below}
+use Rattle.arch_model.proofs.Reaching.{source_below}
 use Rattle.rows.proofs.VectorLaws.{at_component, at_edge}
 use Rattle.redundancy_cut.specs.RightCut.{IsRightRedundancy, IsRightNoGood}
 use Rattle.redundancy_cut.specs.CutRow.{set_of_numbers, is_edge_where, leads_out}

@@ -4,17 +4,7 @@ ghost use Rattle.arch_model.specs.Path as path;
 ghost use Rattle.arch_model.specs.Set.{has};
 ghost use Rattle.redundancy_cut.specs.CutRow as row;
 
-use arch_model::{CompId, CompSet, Edge, Library, MemberSet, VarId};
-
-// Whether member v is a source.
-fn is_source(lib: &Library, v: VarId) -> bool
-    ensures { result ≡ path.is_source lib.now v.0 }
-{
-    match lib.components().get(v.0 as usize) {
-        Some(component) => paths::is_source(component),
-        None => false,
-    }
-}
+use arch_model::{CompId, CompSet, Edge, Library, MemberSet, VarId, is_source};
 
 // The edge that is member v; none where v is no edge.
 fn edge_of(lib: &Library, v: VarId) -> Option<Edge>
@@ -45,7 +35,8 @@ fn is_edge_out(lib: &Library, set: &MemberSet, far: &CompSet, v: VarId) -> bool
 pub(crate) fn leads_out(lib: &Library, set: &MemberSet, far: &CompSet, v: VarId) -> bool
     ensures { result ≡ row.leads_out lib.now set.now far.now v.0 }
 {
-    !set.has(v) && (is_source(lib, v) && !far.has(CompId(v.0)) || is_edge_out(lib, set, far, v))
+    !set.has(v)
+        && (is_source(lib, CompId(v.0)) && !far.has(CompId(v.0)) || is_edge_out(lib, set, far, v))
 }
 
 // Whether member v is an edge with its head in the cone.
@@ -62,5 +53,5 @@ fn is_edge_into(lib: &Library, cone: &CompSet, v: VarId) -> bool
 pub(crate) fn feeds(lib: &Library, cone: &CompSet, v: VarId) -> bool
     ensures { result ≡ row.feeds lib.now cone.now v.0 }
 {
-    is_source(lib, v) && cone.has(CompId(v.0)) || is_edge_into(lib, cone, v)
+    is_source(lib, CompId(v.0)) && cone.has(CompId(v.0)) || is_edge_into(lib, cone, v)
 }

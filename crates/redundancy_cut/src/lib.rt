@@ -17,7 +17,7 @@
 //! right cuts hold, the chosen cut is right, and its candidate breaks it. `is_right` and `row_of`
 //! answer these definitions exactly. They look once at each member and take no memory.
 //!
-//! Stands on `arch_model`, `rows` and `paths`.
+//! Stands on `arch_model` and `rows`.
 #![tactic(auto)]
 
 mod counted;

@@ -28,7 +28,7 @@ sum_none v a (suc n) f h =
     ap (λ b. (if b then f a else pos 0) +ℤ int_sum_by (λ w. if nat_eq v w then f w else pos 0) (range_with_len (a + 1) n)) (unlike v a ne)
     ∙ +ℤ_idl _ ∙ sum_none v (a + 1) n f later
 
-sum_one : (v a n : ℕ) (f : ℕ → ℤ) → a ≤ v → v < a + n → int_sum_by (λ w. if nat_eq v w then f w else pos 0) (range_with_len a n) ≡ f v
+pub sum_one : (v a n : ℕ) (f : ℕ → ℤ) → a ≤ v → v < a + n → int_sum_by (λ w. if nat_eq v w then f w else pos 0) (range_with_len a n) ≡ f v
 sum_one v a zero f low high = absurd (omega arith)
 sum_one v a (suc n) f low high = elim (eqb_tells v a) [
   | inl w ↦
@@ -57,7 +57,7 @@ taken_swap true false a = refl
 taken_swap false true a = refl
 taken_swap false false a = refl
 
-sum_both : (f g h : ℕ → ℤ) (vs : List ℕ) → ((v : ℕ) → h v ≡ f v +ℤ g v) → int_sum_by h vs ≡ int_sum_by f vs +ℤ int_sum_by g vs
+pub sum_both : (f g h : ℕ → ℤ) (vs : List ℕ) → ((v : ℕ) → h v ≡ f v +ℤ g v) → int_sum_by h vs ≡ int_sum_by f vs +ℤ int_sum_by g vs
 sum_both f g h [] e = refl
 sum_both f g h (v ∷ vs) e =
     ap (λ z. z +ℤ int_sum_by h vs) (e v) ∙ ap (λ z. (f v +ℤ g v) +ℤ z) (sum_both f g h vs e) ∙ regroup (f v) (g v) (int_sum_by f vs) (int_sum_by g vs)

@@ -17,6 +17,7 @@ pub mod EmptyProblem
 pub mod Combinations
 pub mod AddedUp
 pub mod Collected
+pub mod OneRow
 pub mod AllParts
 pub mod EdgeRows
 pub mod CubeLaws

@@ -8,5 +8,6 @@ pub mod Known
 pub mod Trace
 pub mod Reason
 pub mod Ascent
+pub mod Outcome
 pub mod Problem
 pub mod Inner

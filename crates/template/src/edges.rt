@@ -1,12 +1,12 @@
 // The edges of a library's links, and the template.
-ghost use Rattle.std.specs.Prelude.{◌≡◌, ◌≤◌, ◌<◌, ◌^◌, ◌++◌, ◌↔◌, IsTrue, IfOk, OnOk};
+ghost use Rattle.std.specs.Prelude.{◌≡◌, ◌≤◌, ◌<◌, ◌++◌, ◌↔◌, IsTrue, IfOk, OnOk};
 ghost use Rattle.std.specs.Prelude.{length};
 ghost use Rattle.std.specs.List.{All, flat_map};
 ghost use Rattle.arch_model.specs.Library.{IsTypeRow, IsLinkRow};
 ghost use Rattle.arch_model.specs.Template.{template_of, components_of, instances_of, edges_to};
 ghost use Rattle.arch_model.specs.Template.{edges_of_link, edges_of};
 
-use crate::instances::components;
+use crate::instances::{TYPES, components};
 use arch_model::limits::{COMPONENTS, EDGES};
 use arch_model::{CompId, Component, Edge, LinkRow, Memory, Template, TypeRow};
 use std::alloc::Global;
@@ -64,7 +64,7 @@ fn edges(alloc: Global, components: &[Component], links: &[LinkRow]) -> Result<V
 /// The template of some types and links: types in order, then by index; links in order, then by
 /// tail, then by head. `Memory` is want of memory alone.
 pub fn expand(alloc: Global, types: &[TypeRow], links: &[LinkRow]) -> Result<Template, Memory>
-    requires numbered { length types.now ≤ 2 ^ 32 }
+    requires numbered { length types.now ≤ TYPES }
     requires few_components { length (components_of types.now) ≤ COMPONENTS }
     ensures { IfOk result (λ t. t ≡ template_of types.now links.now) }
 {

@@ -1,10 +1,13 @@
 // The components of a library's types.
-ghost use Rattle.std.specs.Prelude.{◌≡◌, ◌≤◌, ◌<◌, ◌^◌, ◌++◌, ◌↔◌, IsTrue, IfOk, OnOk, length};
+ghost use Rattle.std.specs.Prelude.{◌≡◌, ◌≤◌, ◌<◌, ◌++◌, ◌↔◌, IsTrue, IfOk, OnOk, length};
 ghost use Rattle.arch_model.specs.Template.{components_of, instances_of_type};
 
 use arch_model::limits::COMPONENTS;
 use arch_model::{Component, Memory, TypeRow};
 use std::alloc::Global;
+
+/// How many types can be numbered, 2^32: a component has its type's number.
+pub const TYPES: u64 = 4294967296;
 
 // Appends the instances of type number t.
 fn push_instances(components: &mut Vec<Component>, t: u32, row: &TypeRow) -> Result<(), Memory>
@@ -26,7 +29,7 @@ fn push_instances(components: &mut Vec<Component>, t: u32, row: &TypeRow) -> Res
 
 /// The components of some types: types in order, then by index.
 pub(crate) fn components(alloc: Global, types: &[TypeRow]) -> Result<Vec<Component>, Memory>
-    requires numbered { length types.now ≤ 2 ^ 32 }
+    requires numbered { length types.now ≤ TYPES }
     ensures { IfOk result (λ v. v.items ≡ components_of types.now) }
 {
     let mut components = Vec::new(alloc);

@@ -18,7 +18,7 @@ mod names;
 
 pub use edges::{expand, has_few_edges};
 pub use finding::{find_component, find_edge};
-pub use instances::has_few_components;
+pub use instances::{TYPES, has_few_components};
 pub use names::{index_in, instance_name, name_of, push_name};
 
 #[cfg(test)]

@@ -1,7 +1,6 @@
--- For the code's own contracts: how a set is stored, and what a search in it and a walk over it give.
-use Rattle.std.specs.Prelude.{◌≡◌, ◌≤◌, ◌<◌, ◌-◌, false, IsTrue, Option, ℕ, List, filter, refl}
+-- For the code's own contracts: how a set is stored, and what a walk over it gives.
+use Rattle.std.specs.Prelude.{◌-◌, ℕ, List, filter, refl}
 use Rattle.std.specs.List.{range_with_len}
-use Rattle.std.specs.Option.{MatchOption}
 use Rattle.std.specs.Coded.{Coded, code_by, coded_ℕ}
 use Rattle.arch_model.specs.Set.{Set, has}
 
@@ -12,7 +11,3 @@ set_code = code_by ℕ coded_ℕ (λ s. s.mask) (λ n. record { mask = n }) (λ 
 -- the members from i on that are below n, ascending
 unfoldable pub members_from : Set → ℕ → ℕ → List ℕ
 members_from s i n = filter (has s) (range_with_len i (n - i))
-
--- what a search for the least member from i on finds: none where none is left
-abbrev pub IsNext : Set → ℕ → Option ℕ → Type 0
-IsNext s i r = MatchOption r ((k : ℕ) → i ≤ k → has s k ≡ false) (λ k. (i ≤ k) × IsTrue (has s k) × ((j : ℕ) → i ≤ j → j < k → has s j ≡ false))

@@ -2,7 +2,7 @@ use Rattle.std.proofs.Common.{◌<◌, ◌&&◌, not, length, sym, ap, ◌∙◌
 use Rattle.std.specs.List.{list_any}
 use Rattle.std.proofs.Math.ListN.{set, length-set}
 use Rattle.arch_model.specs.declared.limits.TheConstants.{EDGES}
-use Rattle.arch_model.specs.Set.{Set, minus, put, empty}
+use Rattle.arch_model.specs.Set.{put, empty}
 use Rattle.arch_model.specs.Member.{is_in}
 use Rattle.arch_model.proofs.Members.{has-from_members}
 use Rattle.arch_model.proofs.Ranges.{blank_edge}
