@@ -9,8 +9,8 @@ ghost use Rattle.paths.specs.Links.{AreLinks};
 ghost use Rattle.cut_sets.specs.Inner.Useful as useful;
 ghost use Rattle.cut_sets.specs.Inner.Useful.{AreSides};
 
-use arch_model::{Architecture, CompId, CompSet, Library, MemberSet, VarId};
-use paths::{Links, ancestors_over, is_source, reach_over};
+use arch_model::{Architecture, CompId, CompSet, Library, MemberSet, VarId, is_source};
+use paths::{Links, ancestors_over, reach_over};
 
 // Where the paths run on which a chosen member can be the only failed one: what leads to it begins
 // among `before` or is a source, and what it leads to is among `after` or is the sink.
@@ -84,7 +84,7 @@ fn is_passed(lib: &Library, sink: CompId, sides: &Sides, v: VarId) -> bool
     let i = v.0 as usize;
     if i < components.len() {
         let c = CompId(v.0);
-        (is_source(&components[i]) || sides.entered.has(c)) && (c == sink || sides.left.has(c))
+        (is_source(lib, c) || sides.entered.has(c)) && (c == sink || sides.left.has(c))
     } else {
         let edge = &lib.edges()[i - components.len()];
         sides.before.has(edge.tail) && sides.after.has(edge.head)
