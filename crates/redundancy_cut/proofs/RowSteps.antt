@@ -1,5 +1,5 @@
 -- Steps of the loops that make rows: one more member that passes the test, or doesn't.
-use Rattle.std.proofs.Common.{◌≡◌, ℕ, ◌+◌, ℤ, pos, negsuc, Bool, true, false, cond, not, ◌&&◌, List, [], ◌∷◌, ◌++◌, fold, filter, length, refl, sym, ap, ◌∙◌, arith, add-one, length-append, inl, inr, if◌then◌else◌}
+use Rattle.std.proofs.Common.{◌≡◌, ℕ, ◌+◌, ℤ, pos, negsuc, Bool, true, false, IsTrue, cond, not, ◌&&◌, List, [], ◌∷◌, ◌++◌, fold, filter, length, refl, sym, ap, ◌∙◌, arith, add-one, length-append, inl, inr, if◌then◌else◌}
 use Rattle.std.specs.List.{range_with_len}
 use Rattle.std.proofs.lemmas.List.Elements.{filter-append}
 use Rattle.std.proofs.lemmas.List.Sums.{fold_push}
@@ -77,16 +77,25 @@ row_same p q least i row after e no_p no_q step =
     step ∙ e ∙ (λ j. record { plus = sym (passed_no p i no_p) j; minus = sym (passed_no q i no_q) j; least = least })
 
 -- a row in which each member that passes has one of two signs, by a second test
-pub row_either : (f g : ℕ → Bool) (least : ℤ) (i : ℕ) (b : Bool) (row after : CutParts) → row ≡ row_so_far (λ v. f v && not (g v)) (λ v. f v && g v) least i → f i ≡ true → b ≡ not (g i) → after ≡ cut_put row i b
+row_either : (f g : ℕ → Bool) (least : ℤ) (i : ℕ) (row after : CutParts) → row ≡ row_so_far (λ v. f v && not (g v)) (λ v. f v && g v) least i → f i ≡ true → after ≡ cut_put row i (not (g i))
     → after ≡ row_so_far (λ v. f v && not (g v)) (λ v. f v && g v) least (i + 1)
-row_either f g least i b row after e yes_f is step = elim (bool_cases (g i)) [
-  | inl here ↦ row_minus (λ v. f v && not (g v)) (λ v. f v && g v) least i row after e (ap (λ c. f i && not c) here ∙ ap (λ c. c && false) yes_f) (ap (λ c. f i && c) here ∙ ap (λ c. c && true) yes_f) (step ∙ ap (cut_put row i) (is ∙ ap not here))
-  | inr gone ↦ row_plus (λ v. f v && not (g v)) (λ v. f v && g v) least i row after e (ap (λ c. f i && not c) gone ∙ ap (λ c. c && true) yes_f) (ap (λ c. f i && c) gone ∙ ap (λ c. c && false) yes_f) (step ∙ ap (cut_put row i) (is ∙ ap not gone))
+row_either f g least i row after e yes_f step = elim (bool_cases (g i)) [
+  | inl here ↦ row_minus (λ v. f v && not (g v)) (λ v. f v && g v) least i row after e (ap (λ c. f i && not c) here ∙ ap (λ c. c && false) yes_f) (ap (λ c. f i && c) here ∙ ap (λ c. c && true) yes_f) (step ∙ ap (λ c. cut_put row i (not c)) here)
+  | inr gone ↦ row_plus (λ v. f v && not (g v)) (λ v. f v && g v) least i row after e (ap (λ c. f i && not c) gone ∙ ap (λ c. c && true) yes_f) (ap (λ c. f i && c) gone ∙ ap (λ c. c && false) yes_f) (step ∙ ap (λ c. cut_put row i (not c)) gone)
 ]
 
-pub row_neither : (f g : ℕ → Bool) (least : ℤ) (i : ℕ) (row after : CutParts) → row ≡ row_so_far (λ v. f v && not (g v)) (λ v. f v && g v) least i → f i ≡ false → after ≡ row
+row_neither : (f g : ℕ → Bool) (least : ℤ) (i : ℕ) (row after : CutParts) → row ≡ row_so_far (λ v. f v && not (g v)) (λ v. f v && g v) least i → f i ≡ false → after ≡ row
     → after ≡ row_so_far (λ v. f v && not (g v)) (λ v. f v && g v) least (i + 1)
 row_neither f g least i row after e no_f step = row_same (λ v. f v && not (g v)) (λ v. f v && g v) least i row after e (ap (λ c. c && not (g i)) no_f) (ap (λ c. c && g i) no_f) step
+
+-- one more member, by what the step makes of one that passes the first test and of one that doesn't
+pub row_step : (f g : ℕ → Bool) (least : ℤ) (i : ℕ) (row after : CutParts) → row ≡ row_so_far (λ v. f v && not (g v)) (λ v. f v && g v) least i
+    → (IsTrue (f i) → after ≡ cut_put row i (not (g i))) → (f i ≡ false → after ≡ row)
+    → after ≡ row_so_far (λ v. f v && not (g v)) (λ v. f v && g v) least (i + 1)
+row_step f g least i row after e fed other = elim (bool_cases (f i)) [
+  | inl here ↦ row_either f g least i row after e here (fed here)
+  | inr gone ↦ row_neither f g least i row after e gone (other gone)
+]
 
 -- a row of one sign at its end
 pass_none : (xs : List ℕ) → filter (λ _. false) xs ≡ []

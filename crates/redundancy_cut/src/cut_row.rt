@@ -1,8 +1,9 @@
 // The rows of cuts.
-ghost use Rattle.std.specs.Prelude.{◌≡◌, ◌<◌, ◌≤◌, pos, ◌-ℤ◌, ◌&&◌, length};
+ghost use Rattle.std.specs.Prelude.{◌≡◌, ◌<◌, ◌≤◌, pos, ◌-ℤ◌, ◌&&◌, length, not, false, IsTrue};
 ghost use Rattle.arch_model.specs.Member as member;
 ghost use Rattle.rows.specs.Known.{IsCutBelow};
-ghost use Rattle.rows.specs.Row.{IsSized};
+ghost use Rattle.rows.specs.Cut.{cut_put};
+ghost use Rattle.rows.specs.Row.{IsSized, cut_coef};
 ghost use Rattle.redundancy_cut.specs.CutRow as spec;
 
 use crate::counted::{feeds, leads_out};
@@ -58,6 +59,21 @@ fn no_good_least(lib: &Library, cone: &CompSet, of: &Architecture) -> i128
     1 - kept_count(lib, cone, of) as i128
 }
 
+// Puts member v into the row of a no-good where it feeds the cone: it counts for the row by its
+// presence where an architecture lacks it, and by its absence where the architecture has it.
+fn put_differing(row: &mut CutRow, lib: &Library, cone: &CompSet, of: &Architecture, v: VarId)
+    requires known { v.0 < member.member_count lib.now }
+    requires small { v.0 < MEMBERS }
+    requires apart { cut_coef row.old v.0 ≡ pos 0 }
+    ensures feeds { IsTrue (spec.feeds lib.now cone.now v.0)
+        → row.new ≡ cut_put row.old v.0 (not (member.is_present lib.now of.now v.0)) }
+    ensures other { spec.feeds lib.now cone.now v.0 ≡ false → row.new ≡ row.old }
+{
+    if feeds(lib, cone, v) {
+        row.put(v, !is_present(lib, of, v));
+    }
+}
+
 // The row that some member that feeds the cone is absent where an architecture has it, or present
 // where it hasn't.
 pub(crate) fn no_good_row(lib: &Library, cone: &CompSet, of: &Architecture) -> CutRow
@@ -65,10 +81,7 @@ pub(crate) fn no_good_row(lib: &Library, cone: &CompSet, of: &Architecture) -> C
 {
     let mut row = CutRow::new(no_good_least(lib, cone, of));
     for i in 0..variable_count(lib) {
-        let v = VarId(i);
-        if feeds(lib, cone, v) {
-            row.put(v, !is_present(lib, of, v));
-        }
+        put_differing(&mut row, lib, cone, of, VarId(i));
     }
     row
 }
