@@ -13,8 +13,8 @@
 //! no set. What is left costs a few looks a set, also in dense layers, where trying every choice
 //! would cost 2^width.
 //!
-//! One table of the present edges, made at the start, serves all searches: edges that have failed
-//! are taken out of a copy.
+//! One table of the present edges, made at the start, is lent to all searches in which no edge has
+//! failed. Else the edges that have failed are taken out of a copy.
 //!
 //! Stands on `arch_model`, `paths` and `smallvec`.
 #![tactic(auto)]

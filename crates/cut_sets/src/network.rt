@@ -1,6 +1,7 @@
 // An architecture as an enumeration sees it, and its questions to it.
 ghost use Rattle.std.specs.Prelude.{◌≡◌, ℕ, ◌<◌, ◌↔◌, List, length, IsTrue, not};
 ghost use Rattle.std.specs.List.{list_all};
+ghost use Rattle.std.specs.Option.{MatchOption};
 ghost use Rattle.arch_model.specs.Set as set;
 ghost use Rattle.arch_model.specs.Library.{IsLibrary};
 ghost use Rattle.arch_model.specs.Architecture.{IsArchitecture};
@@ -62,30 +63,58 @@ impl<'a> Network<'a> {
         }
     }
 
-    // Some failed members, with a table of the edges that are left.
-    fn failing(&self, members: MemberSet) -> Failing
-        ensures members { result.members ≡ members }
-        ensures links { AreLinks self.now.lib self.now.arch (set.has members) result.links }
+    // Whether all of some members are components. Where no edge has failed, the table of all edges
+    // serves.
+    fn are_components(&self, members: &MemberSet) -> bool
+        ensures { IsTrue result
+            ↔ ((v : ℕ) → IsTrue (set.has members.now v) → v < length self.now.lib.components) }
     {
-        let links = self.links.without(self.lib, &self.arch, &members);
-        Failing { members, links }
+        members.is_below(self.lib.components().len())
+    }
+
+    // A table of the edges that are left where some members have failed, made where one of these is
+    // an edge.
+    fn made_without(&self, failed: &MemberSet) -> Option<Links>
+        ensures { MatchOption result
+            ((v : ℕ) → IsTrue (set.has failed.now v) → v < length self.now.lib.components)
+            (AreLinks self.now.lib self.now.arch (set.has failed.now)) }
+    {
+        if self.are_components(failed) {
+            return None;
+        }
+        Some(self.links.without(self.lib, &self.arch, failed))
+    }
+
+    // The table that was made, or else that of all edges.
+    fn table<'t>(&'t self, failed: &MemberSet, made: &'t Option<Links>) -> &'t Links
+        requires { MatchOption made.now
+            ((v : ℕ) → IsTrue (set.has failed.now v) → v < length self.now.lib.components)
+            (AreLinks self.now.lib self.now.arch (set.has failed.now)) }
+        ensures { AreLinks self.now.lib self.now.arch (set.has failed.now) result.now }
+    {
+        match made {
+            Some(links) => links,
+            None => &self.links,
+        }
     }
 
     // The components to which a path leads where some members have failed.
-    fn reached(&self, failing: &Failing) -> CompSet
-        requires { AreLinks self.now.lib self.now.arch (set.has failing.now.members) failing.now.links }
+    fn reached(&self, links: &Links, failed: &MemberSet) -> CompSet
+        requires { AreLinks self.now.lib self.now.arch (set.has failed.now) links.now }
         ensures { (c : ℕ) → IsTrue (set.has result c)
-            ↔ ((path : List ℕ) × IsPath self.now.lib self.now.arch c (set.has failing.now.members) path) }
+            ↔ ((path : List ℕ) × IsPath self.now.lib self.now.arch c (set.has failed.now) path) }
     {
-        reach_over(self.lib, &self.arch, &failing.links, &failing.members)
+        reach_over(self.lib, &self.arch, links, failed)
     }
 
     // Whether some failed members part the sink.
     pub(crate) fn cuts(&self, failed: &MemberSet) -> bool
         ensures { result ≡ parts self.now.lib self.now.arch self.now.sink (set.has failed.now) }
     {
-        let failing = self.failing(*failed);
-        !self.reached(&failing).has(self.sink)
+        let made = self.made_without(failed);
+        let links = (&*self).table(failed, &made);
+        let reached = self.reached(links, failed);
+        !reached.has(self.sink)
     }
 
     // Whether some members part the sink no longer without any one of them.
@@ -143,9 +172,9 @@ impl<'a> Network<'a> {
         requires same { (v : ℕ) → set.has chosen.now.members v ≡ is_in place.now.chosen v }
         requires wide { IsWide self.now place.now wide.now.members }
         requires chosen_links { AreLinks self.now.lib self.now.arch
-            (set.has chosen.now.members) chosen.now.links }
+            (set.has chosen.now.members) chosen.now.links.now }
         requires wide_links { AreLinks self.now.lib self.now.arch
-            (set.has wide.now.members) wide.now.links }
+            (set.has wide.now.members) wide.now.links.now }
         requires reached { (c : ℕ) → IsTrue (set.has reached.now c)
             ↔ ((path : List ℕ) × IsPath self.now.lib self.now.arch c (set.has wide.now.members) path) }
         ensures { IsNextChoice self.now place.now result }
@@ -170,12 +199,22 @@ impl<'a> Network<'a> {
         if !self.has_sink() {
             return None;
         }
-        let wide = self.failing(self.undecided(place));
-        let reached = self.reached(&wide);
+        let members = self.undecided(place);
+        let made = self.made_without(&members);
+        let wide = Failing {
+            members,
+            links: self.table(&members, &made),
+        };
+        let reached = self.reached(wide.links, &wide.members);
         if reached.has(self.sink) {
             return None;
         }
-        let chosen = self.failing(place.set());
+        let members = place.set();
+        let made = self.made_without(&members);
+        let chosen = Failing {
+            members,
+            links: self.table(&members, &made),
+        };
         self.next_beside(place, &chosen, &wide, &reached)
     }
 }

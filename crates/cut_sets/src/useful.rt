@@ -34,10 +34,10 @@ fn with_components(members: &MemberSet, comps: &CompSet) -> MemberSet
 }
 
 // Some failed members, and a table of the edges that haven't failed.
-#[derive(Drop)]
-pub(crate) struct Failing {
+#[derive(Clone, Copy)]
+pub(crate) struct Failing<'a> {
     pub(crate) members: MemberSet,
-    pub(crate) links: Links,
+    pub(crate) links: &'a Links,
 }
 
 // What is surely reached, with its successors, can't stand after a needed member; what surely
@@ -52,21 +52,22 @@ pub(crate) fn sides_of(
 ) -> Sides
     requires fits { IsArchitecture lib.now arch.now }
     requires in_range { sink.0 < length lib.now.components }
-    requires chosen { AreLinks lib.now arch.now (set.has chosen.now.members) chosen.now.links }
-    requires wide { AreLinks lib.now arch.now (set.has wide.now.members) wide.now.links }
+    requires chosen { AreLinks lib.now arch.now (set.has chosen.now.members) chosen.now.links.now }
+    requires wide { AreLinks lib.now arch.now (set.has wide.now.members) wide.now.links.now }
     requires reached { (c : ℕ) → IsTrue (set.has reached.now c)
         ↔ ((path : List ℕ) × IsPath lib.now arch.now c (set.has wide.now.members) path) }
-    ensures { AreSides lib.now arch.now sink.0 (set.has chosen.now.members) (set.has wide.now.members) result }
+    ensures { AreSides lib.now arch.now sink.0
+        (set.has chosen.now.members) (set.has wide.now.members) result }
 {
     // a library's components are few
     let _ = lib.components();
     let far = reached.union(&wide.links.heads(arch, reached));
-    let above = ancestors_over(lib, arch, sink, &wide.links, &wide.members);
+    let above = ancestors_over(lib, arch, sink, wide.links, &wide.members);
     let near = above.union(&wide.links.tails(arch, &above));
     let past_near = with_components(&chosen.members, &near);
-    let before = reach_over(lib, arch, &chosen.links, &past_near);
+    let before = reach_over(lib, arch, chosen.links, &past_near);
     let past_far = with_components(&chosen.members, &far);
-    let after = ancestors_over(lib, arch, sink, &chosen.links, &past_far);
+    let after = ancestors_over(lib, arch, sink, chosen.links, &past_far);
     Sides {
         before,
         entered: chosen.links.heads(arch, &before),

@@ -10,6 +10,5 @@ pub returns : goal.returns
 returns c =
     let net = c.args.self.now in
     let fits = subst (λ (net : NetworkParts). IsArchitecture net.lib net.arch) c.self.view_is c.self.invariant.network.fits in
-    ap not (c.has.ensures.member ∙ ap (λ (net : NetworkParts). has c.reached.result net.sink) c.self.view_is)
-    ∙ sym (uncut_path net.lib net.arch fits net.sink (has c.failing-failing.result.members) (has c.reached.result net.sink) (c.reached.ensures net.sink))
-    ∙ ap (λ (s : Set). parts net.lib net.arch net.sink (has s)) c.failing-failing.ensures.members
+    ap not (c.has.ensures.member ∙ ap (λ (net : NetworkParts). has c.reached-reached.result net.sink) c.self.view_is)
+    ∙ sym (uncut_path net.lib net.arch fits net.sink (has c.args.failed.now) (has c.reached-reached.result net.sink) (c.reached-reached.ensures net.sink))

@@ -14,13 +14,12 @@ returns-then-not-has_sink c = no_sink c.args.self.now c.requires.network c.args.
   | inr high ↦ high
 ])
 
-pub undecided-requires-clause-chosen : goal.undecided-requires-clause-chosen
-undecided-requires-clause-chosen c v h = chosen_has c.args.self.now 0 0 c.args.place.now.chosen c.args.place.now.at c.requires.place v h
+pub undecided-members-requires-clause-chosen : goal.undecided-members-requires-clause-chosen
+undecided-members-requires-clause-chosen c v h = chosen_has c.args.self.now 0 0 c.args.place.now.chosen c.args.place.now.at c.requires.place v h
 
 pub returns-then-has : goal.returns-then-has
 returns-then-has c =
     let net = c.args.self.now in
-    spent_wider net c.requires.network.fits c.args.place.now.chosen c.args.place.now.at c.undecided.result c.undecided.ensures.chosen c.undecided.ensures.candidates
-    (ap (λ (s : Set). parts net.lib net.arch net.sink (has s)) (sym c.failing-wide.ensures.members)
-    ∙ uncut_path net.lib net.arch c.requires.network.fits net.sink (has c.failing-wide.result.members) (has c.reached-reached.result net.sink) (c.reached-reached.ensures net.sink)
+    spent_wider net c.requires.network.fits c.args.place.now.chosen c.args.place.now.at c.undecided-members.result c.undecided-members.ensures.chosen c.undecided-members.ensures.candidates
+    (uncut_path net.lib net.arch c.requires.network.fits net.sink (has c.undecided-members.result) (has c.reached-reached.result net.sink) (c.reached-reached.ensures net.sink)
     ∙ ap not (ap (λ (net : NetworkParts). has c.reached-reached.result net.sink) (sym c.self.view_is) ∙ sym c.has.ensures.member ∙ c.if-has.true))
