@@ -31,5 +31,6 @@ pub mod LastLive
 pub mod CutValues
 pub mod Diligence
 pub mod CandidateLaws
+pub mod Publishing
 pub mod StudyWeights
 pub mod WorkedRows

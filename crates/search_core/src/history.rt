@@ -25,20 +25,23 @@ impl Model for History {
 }
 
 impl History {
-    /// The history without entries.
+    /// The history without entries, and without room for any.
     pub fn new(alloc: Global) -> History
-        ensures { result.entries ≡ [] }
+        ensures entries { result.entries ≡ [] }
+        ensures spare { result.spare ≡ 0 }
     {
         History {
             entries: Vec::new(alloc),
         }
     }
 
-    /// Makes room for at least one more entry. The entries stay. The only error is want of memory.
+    /// Makes room for at least one more entry. The entries stay. The only error is want of memory,
+    /// which comes only where there was no room.
     pub fn reserve(&mut self) -> Result<(), Memory>
         ensures entries { self.new.entries ≡ self.old.entries }
         ensures ok { OnOk result (1 ≤ self.new.spare) }
         ensures err { OnErr result (self.new ≡ self.old) }
+        ensures none { OnErr result (self.old.spare ≡ 0) }
     {
         self.entries.reserve(1)
     }
