@@ -2,7 +2,6 @@ pub mod NodeMap
 pub mod Options
 pub mod KnownAt
 pub mod TraceLaws
-pub mod Reasons
 pub mod FreeVariables
 pub mod Candidates
 pub mod KeptNodes

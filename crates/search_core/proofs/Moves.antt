@@ -1,6 +1,7 @@
 -- What each step keeps.
-use Rattle.std.proofs.Common.{◌≡◌, ℕ, ◌<◌, ◌≤◌, false, List, length, get_or, Option, Some, None, refl, sym, subst, arith}
+use Rattle.std.proofs.Common.{◌≡◌, ℕ, ◌<◌, ◌≤◌, false, List, take, length, get_or, Option, Some, None, refl, sym, subst, arith}
 use Rattle.std.specs.List.{All}
+use Rattle.std.proofs.lemmas.List.Elements.{All-weaker, All-take}
 use Rattle.std.specs.FinMap.{get}
 use Rattle.arch_model.specs.declared.limits.TheConstants.{MEMBERS}
 use Rattle.arch_model.specs.Set.{has}
@@ -15,10 +16,11 @@ use Rattle.rows.specs.Parts.{RowParts, CubeParts, ProblemParts}
 use Rattle.rows.specs.Row.{RowHolds, IsRowBelow, row_of_cut}
 use Rattle.rows.specs.Cube.{IsCube, IsCubeBelow, IsFull}
 use Rattle.rows.specs.Activity.{is_refuted}
-use Rattle.rows.specs.Known.{row_at}
-use Rattle.rows.specs.Reason.{combination_of}
+use Rattle.rows.specs.Known.{row_at, known_rows, IsKnown}
 use Rattle.rows.specs.Problem.{IsProblem, IsVectorOf, IsCandidate}
 use Rattle.rows.proofs.CubeLaws.{holds_nowhere, is_refuted_when, stands_where_it_holds}
+use Rattle.rows.proofs.RefutedReasons.{refuted_together}
+use Rattle.rows.proofs.TraceLaws.{known_has}
 use Rattle.rows.proofs.VectorLaws.{cost_row_says}
 use Rattle.redundancy_cut.specs.declared.cut.Cut.{Cut}
 use Rattle.redundancy_cut.specs.CutRow.{cut_row_of}
@@ -32,10 +34,8 @@ use Rattle.search_core.specs.Candidate.{candidate_of}
 use Rattle.search_core.specs.Step.{IsTraced, Takes, Branches, Prunes, Offers, Studies, Accepts, Publishes, Parks, Reopens, Case, Step}
 use Rattle.search_core.specs.Invariant.{IsOldBound, MeetsBaseRows, HoldsInAll}
 use Rattle.search_core.proofs.CutRows.{RightCutsHold}
-use Rattle.search_core.proofs.Options.{all_in_front}
-use Rattle.search_core.proofs.KnownAt.{each_known, known_rows_below}
+use Rattle.search_core.proofs.KnownAt.{all_known, known_rows_below}
 use Rattle.search_core.proofs.TraceLaws.{cube_kept, lies_after}
-use Rattle.search_core.proofs.Reasons.{combination_holds}
 use Rattle.search_core.proofs.FreeVariables.{fewer_after}
 use Rattle.search_core.proofs.Candidates.{candidate_is, candidate_lies_alone}
 use Rattle.search_core.proofs.Kept.{IsKept, KeepsWanted, replaced_keeps, removed_keeps}
@@ -71,14 +71,20 @@ module _ (problem : ProblemParts) (right : IsLibrary problem.library) (is : IsPr
     below : (k : ℕ) (u : Option ℕ) (r : RowRef) (row : RowParts) → row_at (known_at problem old k u) r ≡ Some row → IsRowBelow n row
     below k u = known_rows_below (known_at problem old k u) is (λ i cut short. (kept.over.cuts i cut short).1)
 
-    -- each row that a held node knows holds in each architecture that is looked for
+    is_known : (i worker k : ℕ) (cube : CubeParts) (u : Option ℕ) → get old.nodes i ≡ Some (Held cube worker k u) → IsKnown (known_at problem old k u)
+    is_known i worker k cube u held = record {
+      upto = (kept.holds.knowledge_is_old i (Held cube worker k u) held).0;
+      cuts = λ j cut short. (kept.over.cuts j cut short).1;
+    }
+
+    -- all rows that a held node knows hold in each architecture that is looked for
     known_hold : (i worker k : ℕ) (cube : CubeParts) (u : Option ℕ) → get old.nodes i ≡ Some (Held cube worker k u) → (arch : ArchitectureParts) → IsAdmissible lib arch → IsCheaper (cost_of lib arch) old.best
-        → (r : RowRef) (row : RowParts) → row_at (known_at problem old k u) r ≡ Some row → RowHolds row (is_present lib arch)
+        → All (λ row. RowHolds row (is_present lib arch)) (known_rows (known_at problem old k u))
     known_hold i worker k cube u held arch can cheap =
         let vector : IsVectorOf lib arch (is_present lib arch) = λ v short. refl in
         let candidate : IsCandidate lib arch = record { meets = can.meets; sinks = can.sinks } in
-        each_known (λ row. RowHolds row (is_present lib arch)) (known_at problem old k u) ((is.decide.exact (is_present lib arch)).1 (arch, vector, candidate))
-        (λ j cut at. all_in_front (HoldsInAll lib) old.cuts k j cut kept.holds.cuts_hold at arch can)
+        all_known (λ row. RowHolds row (is_present lib arch)) (known_at problem old k u) ((is.decide.exact (is_present lib arch)).1 (arch, vector, candidate))
+        (All-weaker (HoldsInAll lib) (λ cut. RowHolds (row_of_cut cut) (is_present lib arch)) (λ cut holds. holds arch can) (take k old.cuts) (All-take (HoldsInAll lib) k old.cuts kept.holds.cuts_hold))
         (λ b at. (cost_row_says lib arch (is_present lib arch) vector b).1
         (below_bound old.best b (cost_of lib arch) (subst (IsOldBound old.best) at (kept.holds.knowledge_is_old i (Held cube worker k u) held).1) cheap))
 
@@ -92,7 +98,8 @@ module _ (problem : ProblemParts) (right : IsLibrary problem.library) (is : IsPr
 
       stays : KeepsWanted problem old t.cube t.after
       stays arch can cheap lies =
-          lies_after (known_at problem old t.cuts t.bound) n (is_present lib arch) few (below t.cuts t.bound) (known_hold i worker t.cuts t.cube t.bound t.held arch can cheap) trace t.cube t.after before lies t.leads
+          lies_after (known_at problem old t.cuts t.bound) n (is_present lib arch) few (below t.cuts t.bound)
+          (λ r row at. known_has (λ row. RowHolds row (is_present lib arch)) (known_at problem old t.cuts t.bound) r row (known_hold i worker t.cuts t.cube t.bound t.held arch can cheap) at) trace t.cube t.after before lies t.leads
 
     takes_keeps : (worker node cuts : ℕ) (bound : Option ℕ) (new : SearchState) → Takes old worker node cuts bound new → IsKept problem new
     takes_keeps worker node cuts bound new step =
@@ -114,9 +121,8 @@ module _ (problem : ProblemParts) (right : IsLibrary problem.library) (is : IsPr
         let known = known_at problem old t.cuts t.bound in
         subst (IsKept problem) (sym step.next)
         (removed_keeps problem old kept node (Held t.cube worker t.cuts t.bound) t.held (λ arch can cheap lies.
-        holds_nowhere (combination_of known reason) t.after (is_present lib arch) (stays worker node trace t arch can cheap lies)
-        (combination_holds known (is_present lib arch) reason (below t.cuts t.bound) (known_hold node worker t.cuts t.cube t.bound t.held arch can cheap) step.there)
-        (is_refuted_when (combination_of known reason) t.after step.refuted)))
+        refuted_together known t.after reason (is_present lib arch) is (is_known node worker t.cuts t.cube t.bound t.held) step.there step.refuted (stays worker node trace t arch can cheap lies)
+        (known_hold node worker t.cuts t.cube t.bound t.held arch can cheap)))
 
     offers_keeps : (worker node : ℕ) (trace : List RowRef) (new : SearchState) → Offers problem old worker node trace new → IsKept problem new
     offers_keeps worker node trace new step =

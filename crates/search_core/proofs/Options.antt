@@ -23,10 +23,6 @@ pub chained_from : {X Y : Type 0} (P : Type 0) (f : X → Option Y) (o : Option 
 chained_from P f None y e k = none_is_some y e
 chained_from P f (Some x) y e k = k x refl e
 
-pub if_some : {X : Type 0} (P : X → Type 0) (o : Option X) → ((x : X) → o ≡ Some x → P x) → IfSome o P
-if_some P None h = tt
-if_some P (Some x) h = h x refl
-
 pub from_if_some : {X : Type 0} (P : X → Type 0) (o : Option X) (x : X) → IfSome o P → o ≡ Some x → P x
 from_if_some P None x h e = none_is_some x e
 from_if_some P (Some y) x h e = subst P (same_some e) h

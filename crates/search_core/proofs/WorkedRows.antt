@@ -44,7 +44,7 @@ use Rattle.incumbent.specs.Best.{best_cost}
 use Rattle.search_core.specs.declared.entry.Entry.{Entry}
 use Rattle.search_core.specs.declared.entry.Entry.TheVariants.{Take, Branch, Prune, Offer, Study, Publish, Accept, Park, Reopen}
 use Rattle.search_core.specs.declared.answer.Answer.TheVariants.{Optimal, Infeasible, NodeLimit}
-use Rattle.search_core.specs.Node.{Node, Open, Held, Pending, Studied, Parked, EachNode, is_open, is_pending, is_parked}
+use Rattle.search_core.specs.Node.{Node, Open, Held, Pending, Studied, Parked, EachNode, node_cube, is_open, is_pending, is_parked}
 use Rattle.search_core.specs.State.{SearchState, start_of, known_at}
 use Rattle.search_core.specs.Candidate.{candidate_of, set_where}
 use Rattle.search_core.specs.Step.{Step, IsTraced, with_node}
@@ -89,10 +89,14 @@ at es best j = record { nodes = nodes_of es; cuts = []; best = best; branchings 
 count_listed : (es : Listed) → is_sorted nat_cmp es ≡ true → len (nodes_of es) ≡ length es
 count_listed es sorted = len-entries (nodes_of es) ∙ ap length (entries-map es sorted)
 
+-- the same under another limit
+abbrev under : ℕ → Listed → Option Best → ℕ → SearchState
+under limit es best j = record { nodes = nodes_of es; cuts = []; best = best; branchings = j; limit = limit }
+
 -- its answer
-answered : (es : Listed) (best : Option Best) (j : ℕ) → is_sorted nat_cmp es ≡ true
-    → answer_of (at es best j) ≡ (if list_all is_parked (map (λ e. e.1) es) then (if nat_eq (length es) 0 then Some (answer_by best) else Some (NodeLimit (best_cost best))) else None)
-answered es best j sorted =
+answered : (limit : ℕ) (es : Listed) (best : Option Best) (j : ℕ) → is_sorted nat_cmp es ≡ true
+    → answer_of (under limit es best j) ≡ (if list_all is_parked (map (λ e. e.1) es) then (if nat_eq (length es) 0 then Some (answer_by best) else Some (NodeLimit (best_cost best))) else None)
+answered limit es best j sorted =
     ap (λ n. if list_all is_parked (values (nodes_of es)) then (if nat_eq n 0 then Some (answer_by best) else Some (NodeLimit (best_cost best))) else None) (count_listed es sorted)
     ∙ ap (λ (l : Listed). if list_all is_parked (map (λ e. e.1) l) then (if nat_eq (length es) 0 then Some (answer_by best) else Some (NodeLimit (best_cost best))) else None) (entries-map es sorted)
 
@@ -354,17 +358,44 @@ complete_p : IsComplete (at at_end best_p 1)
 complete_p = count_listed at_end refl
 
 answer_p : answer_of (at at_end best_p 1) ≡ Some (Optimal 3)
-answer_p = answered at_end best_p 1 refl
+answer_p = answered 4 at_end best_p 1 refl
 
--- before it has none; with the first parked it is the limit's; and with no best nothing is admissible
+-- before it has none, and with no best nothing is admissible
 no_answer_yet : answer_of (at at_7 best_p 1) ≡ None
-no_answer_yet = answered at_7 best_p 1 refl
-
-answer_at_limit : answer_of (at ((1, Parked first) ∷ []) best_p 1) ≡ Some (NodeLimit (Some 3))
-answer_at_limit = answered ((1, Parked first) ∷ []) best_p 1 refl
+no_answer_yet = answered 4 at_7 best_p 1 refl
 
 answer_without_best : answer_of (at at_end None 1) ≡ Some Infeasible
-answer_without_best = answered at_end None 1 refl
+answer_without_best = answered 4 at_end None 1 refl
+
+-- under the limit 1 the first can be parked instead; the answer is the limit's then, and a new limit opens the node again
+abbrev at_parked : Listed
+at_parked = (1, Parked first) ∷ []
+
+park_first : Step problem_p (under 1 at_7 best_p 1) (Park 0 1) (under 1 at_parked best_p 1)
+park_first = record {
+  worker = lit< tt;
+  fits = record {
+    cube = first;
+    cuts = 0;
+    bound = Some 3;
+    held = get-map at_7 refl 1;
+    at_limit = refl;
+    next = ap (λ n. record (under 1 at_7 best_p 1) { nodes = n }) (set_map at_7 refl 1 0 blank (lit< tt) refl (Parked first));
+  };
+}
+
+answer_at_limit : answer_of (under 1 at_parked best_p 1) ≡ Some (NodeLimit (Some 3))
+answer_at_limit = answered 1 at_parked best_p 1 refl
+
+reopen_first : Step problem_p (under 1 at_parked best_p 1) (Reopen 4) (at at_6 best_p 1)
+reopen_first = record {
+  worker = tt;
+  fits = record {
+    not_less = lit≤ tt;
+    few = lit≤ tt;
+    next = ap (λ (es : Listed). under 4 (map (λ e. (e.0, Open (node_cube e.1))) es) best_p 1) (sym (entries-map at_parked refl));
+  };
+}
 
 -- the history is diligent for one analyst
 abbrev QuietAs : Node → Type 0

@@ -1,4 +1,5 @@
-// The architecture of a cube in which nothing is free.
+// The architecture of a cube in which nothing is free. A state has the numbers of the template's
+// components and edges, and no library, from which `binary_program` would read it.
 ghost use Rattle.std.specs.Prelude.{◌≡◌, ℕ, ◌+◌, ◌≤◌};
 ghost use Rattle.arch_model.specs.Set.{has};
 ghost use Rattle.search_core.specs.Candidate as spec;
@@ -36,9 +37,9 @@ fn edges_among(members: &MemberSet, components: u32, edges: u32) -> EdgeSet
     chosen
 }
 
-/// The candidate of a cube, where a template has this many components and edges: those whose
-/// variables are at 1.
-pub fn candidate_in(components: u32, edges: u32, cube: &Cube) -> Architecture
+// The candidate of a cube, where a template has this many components and edges: those whose
+// variables are at 1.
+pub(crate) fn candidate_in(components: u32, edges: u32, cube: &Cube) -> Architecture
     requires few_components { components ≤ COMPONENTS }
     requires few_edges { edges ≤ EDGES }
     ensures { result ≡ spec.candidate_in components edges cube.now }

@@ -60,6 +60,7 @@ impl State {
         ensures step { Step problem.now self.now.search entry.now (changed self.now.search result) }
         ensures can { CanMake self.now.search result }
     {
+        // Tells the prover that the library keeps its rules, and the bounds on its members.
         let _count = variable_count(problem.library());
         match entry {
             Entry::Take {

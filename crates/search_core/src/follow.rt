@@ -11,6 +11,7 @@ fn follow_step(known: &Known, cube: &Cube, r: RowRef) -> Result<Cube, Rule>
     requires { IsKnown (parts_of known.now) }
     ensures { result ≡ spec.follow_step (parts_of known.now) cube.now r }
 {
+    // Tells the prover that the library keeps its rules, and the bounds on its members.
     let _count = variable_count(known.problem.library());
     if !has(known, r) {
         return Err(Rule::Row);
@@ -25,9 +26,9 @@ fn follow_step(known: &Known, cube: &Cube, r: RowRef) -> Result<Cube, Rule>
     }
 }
 
-/// Where a trace leads from a cube, or the rule that its first bad step breaks: Row where it names
-/// no row that is known, Step where its row forces nothing.
-pub fn follow(known: &Known, cube: Cube, trace: &Trace) -> Result<Cube, Rule>
+// Where a trace leads from a cube, or the rule that its first bad step breaks: Row where it names no
+// row that is known, Step where its row forces nothing.
+pub(crate) fn follow(known: &Known, cube: Cube, trace: &Trace) -> Result<Cube, Rule>
     requires { IsKnown (parts_of known.now) }
     ensures { result ≡ spec.follow_trace (parts_of known.now) cube trace.now }
 {

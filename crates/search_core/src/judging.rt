@@ -21,10 +21,7 @@ impl State {
     fn best_cost(&self) -> Option<u64>
         ensures { result ≡ best_cost self.now.search.best }
     {
-        match self.best {
-            Some(best) => Some(best.cost),
-            None => None,
-        }
+        self.best.map(|best| best.cost)
     }
 
     // What a Take changes, or the first rule that it breaks.

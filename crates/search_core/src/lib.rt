@@ -11,8 +11,10 @@
 //! state that it leads to or names the first rule that it breaks; `State::apply` makes it where the
 //! entry is known to be a step and there is room, and takes no memory. `History` is a list of
 //! entries. Live nodes stand in one list by number. A step finds its node there once, by bisection,
-//! and follows its trace once: it costs what it touches. The last node of a kind is found from the
-//! end of the list.
+//! and follows its trace once. A step that removes a node moves those of greater numbers down by
+//! one place, and one that changes the limit opens every node. The last node of a kind is found
+//! from the end of the list, past all nodes of other kinds with greater numbers: the last open one
+//! past the pending, held, studied and parked ones above it.
 //!
 //! `laws` has what holds over all histories: each admissible architecture that is cheaper than the
 //! best lies in the cube of a live node, each cut holds in all of them, a history between two

@@ -258,7 +258,7 @@ fn last_live(live: &[Live], sought: Sought) -> Option<u32>
 {
     let len = live.len();
     for back in 0..len {
-        let node = live[len - 1 - back];
+        let node = &live[len - 1 - back];
         if sought.fits(&node.state) {
             return Some(node.number);
         }

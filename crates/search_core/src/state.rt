@@ -69,6 +69,7 @@ pub fn start(alloc: Global, problem: &Problem, limit: u32) -> Result<State, Memo
     ensures of { IfOk result (λ state. IsStateOf problem.now state) }
 {
     let lib = problem.library();
+    // Tells the prover that the library keeps its rules, and the bounds on its members.
     let _count = variable_count(lib);
     let mut nodes = Nodes::new(alloc);
     nodes.reserve()?;

@@ -31,6 +31,7 @@ fn value_of_cut(problem: &Problem, cut: &CutRow, cube: &Cube) -> i128
     ensures value { result ≡ greatest_activity (row_of_cut cut.now) cube.now }
     ensures small { unsigned_abs result ≤ 2 ^ 118 }
 {
+    // Tells the prover that the library keeps its rules, and the bounds on its members.
     let _count = variable_count(problem.library());
     let ones = cube.ones();
     let plus = cut.plus().intersection(&ones).len();
@@ -117,6 +118,7 @@ impl State {
             AcceptBreaks problem.now self.now.search worker node price rule) }
     {
         let lib = problem.library();
+        // Tells the prover that the library keeps its rules, and the bounds on its members.
         let _count = variable_count(lib);
         if worker >= WORKERS {
             return Err(Rule::Worker);
@@ -151,6 +153,7 @@ impl State {
         ensures broken { IfErr result (λ rule.
             PublishBreaks problem.now self.now.search worker node cut.now rule) }
     {
+        // Tells the prover that the library keeps its rules, and the bounds on its members.
         let _count = variable_count(problem.library());
         if worker >= WORKERS {
             return Err(Rule::Worker);

@@ -106,6 +106,7 @@ impl State {
         ensures broken { IfErr result
             (λ rule. HeldFails problem.now self.now.search worker node trace.now rule) }
     {
+        // Tells the prover that the library keeps its rules, and the bounds on its members.
         let _count = variable_count(problem.library());
         if worker >= WORKERS {
             return Err(Rule::Worker);
@@ -119,15 +120,13 @@ impl State {
             upto: held.cuts,
             bound: held.bound,
         };
-        match follow(&known, held.cube, trace) {
-            Ok(after) => Ok(Traced {
-                spot,
-                after,
-                cuts: held.cuts,
-                bound: held.bound,
-            }),
-            Err(rule) => Err(rule),
-        }
+        let after = follow(&known, held.cube, trace)?;
+        Ok(Traced {
+            spot,
+            after,
+            cuts: held.cuts,
+            bound: held.bound,
+        })
     }
 
     // What a Branch changes, or the first rule that it breaks.
@@ -147,6 +146,7 @@ impl State {
         ensures broken { IfErr result (λ rule.
             BranchBreaks problem.now self.now.search worker node trace.now var.0 rule) }
     {
+        // Tells the prover that the library keeps its rules, and the bounds on its members.
         let _count = variable_count(problem.library());
         let traced = self.judge_trace(problem, worker, node, trace)?;
         if !is_free_variable(problem, &traced.after, var) {
@@ -245,6 +245,7 @@ impl State {
         ensures cube { (t : IsTraced problem.now self.now.search worker node trace.now)
             → result.cube ≡ t.after }
     {
+        // Tells the prover that the library keeps its rules, and the bounds on its members.
         let _count = variable_count(problem.library());
         let (spot, held) = self.held_at(node, worker).unwrap();
         let known = Known {

@@ -1,4 +1,5 @@
 use Rattle.std.proofs.Common.{Ok, Err, refl, sym, subst}
+use Rattle.std.proofs.lemmas.Result.{err_from_is_err_and}
 use Rattle.arch_model.specs.Library.{IsLibrary}
 use Rattle.search_core.specs.State.{known_at}
 use Rattle.search_core.specs.Step.{IsHeldBy}
@@ -12,8 +13,8 @@ follow-requires c =
     let h : IsHeldBy c.args.self.now.search c.args.worker c.args.node = record { cube = c.in-Some.held.cube; cuts = c.in-Some.held.cuts; bound = c.in-Some.held.bound; held = c.in-Some.ensures.some.live } in
     known_held c.args.problem.now (subst IsLibrary c.library.ensures.library c.variable_count-count.ensures.library) c.library.ensures.problem _ c.args.self.now c.self.view_is c.requires c.args.worker c.args.node h
 
-pub returns-in-Ok-clause-traced : goal.returns-in-Ok-clause-traced
-returns-in-Ok-clause-traced c =
+pub returns-clause-traced : goal.returns-clause-traced
+returns-clause-traced c =
     let h : IsHeldBy c.args.self.now.search c.args.worker c.args.node = record { cube = c.in-Some.held.cube; cuts = c.in-Some.held.cuts; bound = c.in-Some.held.bound; held = c.in-Some.ensures.some.live } in
     record {
       traced = record {
@@ -21,8 +22,8 @@ returns-in-Ok-clause-traced c =
         cuts = c.in-Some.held.cuts;
         bound = c.in-Some.held.bound;
         held = c.in-Some.ensures.some.live;
-        after = c.in-Ok.after;
-        leads = followed_is_legal (known_at c.args.problem.now c.args.self.now.search c.in-Some.held.cuts c.in-Some.held.bound) c.args.trace.now c.in-Some.held.cube c.in-Ok.after (sym (followed c.args.problem.now (subst IsLibrary c.library.ensures.library c.variable_count-count.ensures.library) c.library.ensures.problem _ c.args.self.now c.self.view_is c.requires c.args.worker c.args.node h c.args.trace.now (Ok c.in-Ok.after) c.in-Ok.ensures));
+        after = c.in_ok-after.after;
+        leads = followed_is_legal (known_at c.args.problem.now c.args.self.now.search c.in-Some.held.cuts c.in-Some.held.bound) c.args.trace.now c.in-Some.held.cube c.in_ok-after.after (sym (followed c.args.problem.now (subst IsLibrary c.library.ensures.library c.variable_count-count.ensures.library) c.library.ensures.problem _ c.args.self.now c.self.view_is c.requires c.args.worker c.args.node h c.args.trace.now (Ok c.in_ok-after.after) c.in_ok-after.ensures));
       };
       at = c.in-Some.ensures.some.at;
       after = refl;
@@ -30,7 +31,8 @@ returns-in-Ok-clause-traced c =
       bound = refl;
     }
 
-pub returns-in-Err-clause-broken : goal.returns-in-Err-clause-broken
-returns-in-Err-clause-broken c =
+pub returns-in_err-after-clause-broken : goal.returns-in_err-after-clause-broken
+returns-in_err-after-clause-broken c =
     let h : IsHeldBy c.args.self.now.search c.args.worker c.args.node = record { cube = c.in-Some.held.cube; cuts = c.in-Some.held.cuts; bound = c.in-Some.held.bound; held = c.in-Some.ensures.some.live } in
-    trace_breaks c.args.problem.now c.args.self.now.search c.args.worker c.args.node c.args.trace.now c.if-worker-ge-WORKERS.false h (Err c.in-Err.rule) (followed c.args.problem.now (subst IsLibrary c.library.ensures.library c.variable_count-count.ensures.library) c.library.ensures.problem _ c.args.self.now c.self.view_is c.requires c.args.worker c.args.node h c.args.trace.now (Err c.in-Err.rule) c.in-Err.ensures)
+    let p = err_from_is_err_and c.from_residual.result c.from_residual.ensures.1 in
+    rw (p.1, p.2) (trace_breaks c.args.problem.now c.args.self.now.search c.args.worker c.args.node c.args.trace.now c.if-worker-ge-WORKERS.false h (Err c.in_err-after.field-0.0) (followed c.args.problem.now (subst IsLibrary c.library.ensures.library c.variable_count-count.ensures.library) c.library.ensures.problem _ c.args.self.now c.self.view_is c.requires c.args.worker c.args.node h c.args.trace.now (Err c.in_err-after.field-0.0) c.in_err-after.ensures))
