@@ -1,0 +1,13 @@
+pub mod Workers
+pub mod Appending
+pub mod Beginning
+pub mod Publishing
+pub mod Outcomes
+pub mod Handing
+pub mod Exactly
+pub mod Sharing
+pub mod Ready
+pub mod CutFronts
+pub mod Studying
+pub mod Counting
+pub mod WorkedRows

@@ -1,0 +1,29 @@
+//! The pool of a search: the one value that its workers pass from hand to hand.
+//!
+//! It has the state of the search, and the history that leads to it from a base. Its type keeps
+//! (`IsPool`) that the history is a list of steps, each the one that the rules of the search ask
+//! for, that no entry changes the limit, that each names a worker of the team, and how long it is
+//! at most. Each call from `branch` to `park` appends the one entry of its name, and `take` one
+//! where it hands out work; none of them takes memory. What a worker is handed is a ticket, a plain
+//! value: `fits`, `fits_study` and `held` say in a later turn what has become of it. A pool may lie
+//! behind a gate: what it is about is its problem, its base and its team, and its count is the
+//! length of its history.
+//!
+//! A call costs what it touches: the last open node is found from the end of the live ones, and no
+//! call walks the history. `fits` and `copy_cuts` walk the cuts. Only `Pool::new`, `reserve` and
+//! `copy_cuts` take memory.
+//!
+//! It stands on `search_core` for the steps and on `pool_gate` for what may lie behind a gate.
+#![tactic(auto)]
+
+mod entries;
+mod fitting;
+mod held;
+pub mod laws;
+mod pool;
+mod taking;
+mod ticket;
+
+pub use held::Topic;
+pub use pool::Pool;
+pub use ticket::{AtLimit, SearchTicket, StudyTicket, Work};
