@@ -19,3 +19,9 @@ pub mod Spelling
 pub mod WholeLogs
 pub mod WorkedRows
 pub mod WorkedLogs
+pub mod LineLengths
+pub mod CostRanges
+pub mod LinkFailures
+pub mod EntryRanges
+pub mod LogSums
+pub mod LogsPass

@@ -5,8 +5,8 @@ use Rattle.std.specs.Fmt.{decimal}
 use Rattle.std.proofs.lemmas.List.{length-append}
 use Rattle.std.proofs.lemmas.Fmt.{length-decimal-le}
 use Rattle.arch_model.specs.declared.limits.TheConstants.{COMPONENTS, MEMBERS}
-use Rattle.proof_log.specs.Field.{RowName, base_row, cut_row, cost_row, Field, word, number, optional, trace, reason, members, AMOUNTS, TIMES, row_text, pair_text, list_text, field_text, fields_text, RowNumber, OptionalNumber, EachNumber, HasPairs}
-use Rattle.proof_log.specs.Line.{Line, version, vars, limits, takes, branches, prunes, offers, studies, redundancy, no_good, accepts, parks, reopens, optimal, infeasible, node_limit, SET_NUMBERS, small, amount}
+use Rattle.proof_log.specs.Field.{RowName, base_row, cut_row, cost_row, Field, word, optional, trace, reason, members, AMOUNTS, TIMES, row_text, pair_text, list_text, field_text, fields_text, RowNumber, OptionalNumber}
+use Rattle.proof_log.specs.Line.{version, vars, limits, takes, branches, prunes, offers, studies, redundancy, no_good, accepts, parks, reopens, optimal, infeasible, node_limit, SET_NUMBERS, small, amount}
 use Rattle.proof_log.specs.Fault.{IsInRange}
 use Rattle.proof_log.specs.Value.{text_of}
 use Rattle.proof_log.proofs.Numbers.{IsFrom, PairInRange}

@@ -1,6 +1,7 @@
 -- Whole logs: their text, and which of them pass.
 use Rattle.std.specs.Prelude.{◌≡◌, ℕ, ◌^◌, ◌≤◌, List, [], ◌∷◌, ◌++◌, map, length, Some}
-use Rattle.std.specs.List.{flat_map, AllByRecursion}
+use Rattle.std.specs.List.{All, flat_map, AllByRecursion}
+use Rattle.arch_model.specs.Parts.{LibraryParts}
 use Rattle.rows.specs.Parts.{ProblemParts}
 use Rattle.search_core.specs.declared.entry.Entry.{Entry}
 use Rattle.search_core.specs.declared.answer.Answer.{Answer}
@@ -28,6 +29,10 @@ log_lines problem limit entries answer branchings cuts =
     ∷ lines.Vars (length problem.library.components) (length problem.library.edges)
     ∷ lines.Limit limit
     ∷ (map (λ e. lines.Entry e) entries ++ lines.Closing answer branchings cuts ∷ [])
+
+-- no link's edges fail
+abbrev pub NoLinkFails : LibraryParts → Type 0
+NoLinkFails lib = All (λ link. link.fail ≡ 0) lib.links
 
 -- the text of lines, each ended by a line feed
 abbrev pub lines_text : List LogLine → List ℕ

@@ -1,16 +1,21 @@
 //! Laws of the log's text, each the contract of a function without a body.
-ghost use Rattle.std.specs.Prelude.{◌≡◌, ℕ, ◌≤◌, ◌++◌, List, length};
+ghost use Rattle.std.specs.Prelude.{◌≡◌, ℕ, ◌≤◌, ◌++◌, List, length, Some};
 ghost use Rattle.std.specs.List.{flat_map, AllByRecursion};
+ghost use Rattle.arch_model.specs.Library.{IsLibrary};
 ghost use Rattle.rows.specs.Parts.{ProblemParts};
+ghost use Rattle.rows.specs.Problem.{IsProblem};
 ghost use Rattle.search_core.specs.declared.entry.Entry.{Entry};
 ghost use Rattle.search_core.specs.declared.answer.Answer.{Answer};
+ghost use Rattle.search_core.specs.State.{SearchState};
+ghost use Rattle.search_core.specs.History.{Reaches, HasNoReopen};
+ghost use Rattle.search_core.specs.Answers.{answer_of};
 ghost use Rattle.proof_log.specs.declared.log_line.TheConstants.{LINE_BYTES};
 ghost use Rattle.proof_log.specs.declared.log_line.LineFault.{LineFault};
 ghost use Rattle.proof_log.specs.declared.log_line.LogLine.{LogLine};
 ghost use Rattle.proof_log.specs.Line.{Line};
 ghost use Rattle.proof_log.specs.Fault.{IsInRange, ListsAscend, BreaksNone, BreaksFirst};
 ghost use Rattle.proof_log.specs.Value.{log_line, text_of, ended, header_text, entry_text, closing_text};
-ghost use Rattle.proof_log.specs.Log.{IsLoggable, log_lines, log_text_of, Accepts};
+ghost use Rattle.proof_log.specs.Log.{IsLoggable, NoLinkFails, log_lines, log_text_of, Accepts};
 
 /// Each line has one spelling: its text determines it.
 pub fn each_line_has_one_spelling()
@@ -66,4 +71,15 @@ pub fn a_text_determines_its_log()
 pub fn a_log_passes_with_one_answer()
     ensures { (problem : ProblemParts) (bytes : List ℕ) (a b : Answer)
         → Accepts problem bytes a → Accepts problem bytes b → a ≡ b }
+{}
+
+/// The log of a finished search passes. Of a legal history that changes no limit and leads to an
+/// answer, each line can be read, and the whole has at most 2^32 bytes.
+pub fn logs_of_searches_pass()
+    ensures { (problem : ProblemParts) (limit : ℕ) (entries : List Entry) (state : SearchState)
+        (answer : Answer)
+        → IsLibrary problem.library → IsProblem problem → NoLinkFails problem.library
+        → Reaches problem limit entries state → HasNoReopen entries
+        → answer_of state ≡ Some answer
+        → Accepts problem (log_text_of problem limit entries answer state.branchings (length state.cuts)) answer }
 {}

@@ -1,0 +1,85 @@
+-- Where no link fails, a right cut's set has components alone.
+use Rattle.std.proofs.Common.{◌≡◌, ℕ, zero, suc, ◌-◌, ◌*◌, ◌^◌, ◌≤◌, ◌<◌, true, false, not, nat_eq, List, [], ◌∷◌, ◌++◌, map, filter, length, get_or, refl, sym, ap, subst, ◌∙◌, arith, inl, inr}
+use Rattle.std.specs.Prelude.{IsTrue}
+use Rattle.std.specs.List.{AllByRecursion, flat_map, fold}
+use Rattle.std.proofs.lemmas.Bool.{eqb-true, cases_lt}
+use Rattle.std.proofs.lemmas.List.Elements.{recursion_from_All}
+use Rattle.arch_model.specs.declared.template.Component.{Component}
+use Rattle.arch_model.specs.declared.template.Edge.{Edge}
+use Rattle.arch_model.specs.declared.library.LinkRow.{LinkRow}
+use Rattle.arch_model.specs.declared.library.Requirement.{Requirement}
+use Rattle.arch_model.specs.Set.{Set, has, members_below}
+use Rattle.arch_model.specs.Parts.{LibraryParts}
+use Rattle.arch_model.specs.Library.{IsLibrary}
+use Rattle.arch_model.specs.Template.{components_of, instances_of, edge_of, edges_to, edges_of_link, edges_of}
+use Rattle.arch_model.specs.Member.{is_in, fail_of, member_count}
+use Rattle.arch_model.specs.Weight.{product_of, ceil_div}
+use Rattle.arch_model.proofs.Ranges.{blank_edge, fail_of_edge}
+use Rattle.arch_model.proofs.Members.{or_cases, is_in-members}
+use Rattle.redundancy_cut.specs.RightCut.{IsRightRedundancy}
+use Rattle.proof_log.specs.Line.{SET_NUMBERS}
+use Rattle.proof_log.specs.Log.{NoLinkFails}
+
+-- ---- no edge fails
+
+abbrev NeverFails : Edge → Type 0
+NeverFails e = e.fail ≡ 0
+
+each_edge : (link : LinkRow) (tail : ℕ) (heads : List ℕ) → link.fail ≡ 0 → AllByRecursion NeverFails (map (edge_of link tail) heads)
+each_edge link tail [] never = tt
+each_edge link tail (h ∷ heads) never = (never, each_edge link tail heads never)
+
+joined : (xs ys : List Edge) → AllByRecursion NeverFails xs → AllByRecursion NeverFails ys → AllByRecursion NeverFails (xs ++ ys)
+joined [] ys a b = b
+joined (x ∷ xs) ys a b = (a.0, joined xs ys a.1 b)
+
+each_tail : (link : LinkRow) (heads : List ℕ) (tails : List ℕ) → link.fail ≡ 0 → AllByRecursion NeverFails (flat_map (λ tail. edges_to link tail heads) tails)
+each_tail link heads [] never = tt
+each_tail link heads (t ∷ tails) never =
+    joined (edges_to link t heads) (flat_map (λ tail. edges_to link tail heads) tails) (each_edge link t (filter (λ head. not (nat_eq head t)) heads) never) (each_tail link heads tails never)
+
+each_link : (components : List Component) (links : List LinkRow) → AllByRecursion (λ link. link.fail ≡ 0) links → AllByRecursion NeverFails (edges_of components links)
+each_link components [] never = tt
+each_link components (link ∷ links) never =
+    joined (edges_of_link components link) (edges_of components links) (each_tail link (instances_of components link.to) (instances_of components link.from) never.0) (each_link components links never.1)
+
+at_place : (edges : List Edge) (k : ℕ) → AllByRecursion NeverFails edges → k < length edges → (get_or edges k blank_edge).fail ≡ 0
+at_place [] k all short = refl
+at_place (e ∷ edges) zero all short = all.0
+at_place (e ∷ edges) (suc k) all short = at_place edges k all.1 (omega arith)
+
+module _ (lib : LibraryParts) (right : IsLibrary lib) (never : NoLinkFails lib) where
+  edges_never : AllByRecursion NeverFails lib.edges
+  edges_never = subst (AllByRecursion NeverFails) (sym right.edges) (each_link (components_of lib.types) lib.links (recursion_from_All (λ (link : LinkRow). link.fail ≡ 0) lib.links never))
+
+  edge_never : (v : ℕ) → length lib.components ≤ v → v < member_count lib → fail_of lib v ≡ 0
+  edge_never v far short = sym (fail_of_edge lib v far short) ∙ at_place lib.edges (v - length lib.components) edges_never (omega arith)
+
+  -- ---- a product with a member that never fails
+
+  abbrev step : ℕ → ℕ → ℕ
+  step v c = ceil_div (v * fail_of lib c) (10 ^ 6)
+
+  stays_zero : (members : List ℕ) → fold step 0 members ≡ 0
+  stays_zero [] = refl
+  stays_zero (c ∷ cs) = let e : step 0 c ≡ 0 = omega arith in ap (λ v. fold step v cs) e ∙ stays_zero cs
+
+  zero_at : (members : List ℕ) (v c : ℕ) → is_in members c ≡ true → fail_of lib c ≡ 0 → fold step v members ≡ 0
+  zero_at [] v c h none = absurd (let e : false ≡ true = h in cc)
+  zero_at (d ∷ ds) v c h none = elim (or_cases (nat_eq d c) (is_in ds c) h) [
+    | inl here ↦
+        let nothing : fail_of lib d ≡ 0 = ap (fail_of lib) (eqb-true d c here) ∙ none in
+        let e : step v d ≡ 0 = rw nothing (omega arith) in
+        ap (λ w. fold step w ds) e ∙ stays_zero ds
+    | inr later ↦ zero_at ds (step v d) c later none
+  ]
+
+  -- the set of a right cut
+  pub set_below : (r : Requirement) (set far : Set) → IsRightRedundancy lib r set far → (v : ℕ) → IsTrue (has set v) → v < SET_NUMBERS
+  set_below r set far is v on = elim (cases_lt v (length lib.components)) [
+    | inl low ↦ omega (arith, low, right.few_components)
+    | inr high ↦
+        let short : v < member_count lib = is.members v on in
+        let nothing : product_of lib (members_below set (member_count lib)) ≡ 0 = zero_at (members_below set (member_count lib)) (10 ^ 18) v (is_in-members set (member_count lib) v on short) (edge_never v high short) in
+        absurd (omega (arith, is.heavy, nothing))
+  ]
