@@ -32,11 +32,11 @@ use Rattle.proof_log.specs.Field.{RowNumber, OptionalNumber}
 use Rattle.proof_log.specs.Line.{SET_NUMBERS}
 use Rattle.proof_log.specs.Fault.{IsInRange}
 use Rattle.proof_log.specs.Value.{row_name, named_pair, entry_line, entry_text, EntryIsSmall}
-use Rattle.proof_log.specs.Log.{NoLinkFails}
+use Rattle.proof_log.specs.Log.{NoEdgeFails}
 use Rattle.proof_log.proofs.Numbers.{IsFrom}
 use Rattle.proof_log.proofs.LineLengths.{takes_bytes, branches_bytes, prunes_bytes, offers_bytes, studies_bytes, redundancy_bytes, no_good_bytes, accepts_bytes, parks_bytes, reopens_bytes}
 use Rattle.proof_log.proofs.CostRanges.{FewRows, cost_small, trace_numbers, reason_numbers, few_members, trace_few, members_in}
-use Rattle.proof_log.proofs.LinkFailures.{set_below}
+use Rattle.proof_log.proofs.EdgeFailures.{set_below}
 
 -- a number of 32 bits
 abbrev pub IsWord : ℕ → Type 0
@@ -71,7 +71,7 @@ pub best_in : (lib : LibraryParts) → IsLibrary lib → (best : Option Best) �
 best_in lib right None h = tt
 best_in lib right (Some b) h = let costs = h.cost in let low = cost_small lib right b.architecture in (omega arith, omega (arith, costs, low))
 
-module _ (problem : ProblemParts) (right : IsLibrary problem.library) (is : IsProblem problem) (never : NoLinkFails problem.library) (old : SearchState) (kept : IsKept problem old) (few : old.limit ≤ BRANCHINGS) where
+module _ (problem : ProblemParts) (right : IsLibrary problem.library) (is : IsProblem problem) (never : NoEdgeFails problem.library) (old : SearchState) (kept : IsKept problem old) (few : old.limit ≤ BRANCHINGS) where
   abbrev lib : LibraryParts
   lib = problem.library
 

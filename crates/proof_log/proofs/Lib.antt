@@ -21,7 +21,7 @@ pub mod WorkedRows
 pub mod WorkedLogs
 pub mod LineLengths
 pub mod CostRanges
-pub mod LinkFailures
+pub mod EdgeFailures
 pub mod EntryRanges
 pub mod LogSums
 pub mod LogsPass

@@ -23,7 +23,7 @@ use Rattle.search_core.proofs.Kept.{IsKept}
 use Rattle.search_core.proofs.Counts.{case_keeps_limit}
 use Rattle.search_core.proofs.Moves.{step_keeps}
 use Rattle.proof_log.specs.Value.{ended, entry_text}
-use Rattle.proof_log.specs.Log.{NoLinkFails}
+use Rattle.proof_log.specs.Log.{NoEdgeFails}
 use Rattle.proof_log.proofs.EntryRanges.{CanBeLogged, most_bytes, step_logged}
 
 -- how many bytes a node's lines can still have before it is gone or parked
@@ -114,7 +114,7 @@ pub record AreLogged (entries : List Entry) (old new : SearchState) : Type 0 whe
   pub each : AllByRecursion CanBeLogged entries
   pub bytes : entries_bytes entries + room_of new + 24000 * old.branchings ≤ room_of old + 24000 * new.branchings
 
-module _ (problem : ProblemParts) (right : IsLibrary problem.library) (is : IsProblem problem) (sound : RightCutsHold problem.library) (never : NoLinkFails problem.library) where
+module _ (problem : ProblemParts) (right : IsLibrary problem.library) (is : IsProblem problem) (sound : RightCutsHold problem.library) (never : NoEdgeFails problem.library) where
   pub steps_logged : (entries : List Entry) (old new : SearchState) → IsKept problem old → old.limit ≤ BRANCHINGS → AllByRecursion (λ entry. is_reopen entry ≡ false) entries → Steps problem old entries new → AreLogged entries old new
   steps_logged [] old new kept few none steps = record {
     each = tt;

@@ -31,7 +31,7 @@ use Rattle.proof_log.specs.declared.log_line.LogLine.TheVariants as lines
 use Rattle.proof_log.specs.Line.{version, vars, limits}
 use Rattle.proof_log.specs.Fault.{IsInRange}
 use Rattle.proof_log.specs.Value.{text_of, ended, entry_text, closing_line, closing_text}
-use Rattle.proof_log.specs.Log.{IsReadable, log_text_of, LOG_BYTES, NoLinkFails, Accepts}
+use Rattle.proof_log.specs.Log.{IsReadable, log_text_of, LOG_BYTES, NoEdgeFails, Accepts}
 use Rattle.proof_log.proofs.LineLengths.{version_bytes, vars_bytes, limits_bytes, optimal_bytes, infeasible_bytes, node_limit_bytes}
 use Rattle.proof_log.proofs.EntryRanges.{IsWord, as_word, CanBeLogged, most_bytes, best_in, cuts_in}
 use Rattle.proof_log.proofs.LogSums.{AreLogged, room_of, steps_logged, room_at_start}
@@ -86,7 +86,7 @@ length-ended text = omega (arith, length-append text (codes "\n"))
 in_all : (a b c e z all w r b0 : ℕ) → a ≤ 100 → b ≤ 100 → c ≤ 100 → z ≤ 100 → all ≡ ((a + b) + c) + (e + z) → e + w + 24000 * 0 ≤ r + 24000 * b0 → r ≡ 12000 → b0 ≤ BRANCHINGS → all ≤ LOG_BYTES
 in_all a b c e z all w r b0 ha hb hc hz sum he start few = omega arith
 
-pub logs_pass : (problem : ProblemParts) (limit : ℕ) (entries : List Entry) (state : SearchState) (answer : Answer) → IsLibrary problem.library → IsProblem problem → NoLinkFails problem.library → Reaches problem limit entries state
+pub logs_pass : (problem : ProblemParts) (limit : ℕ) (entries : List Entry) (state : SearchState) (answer : Answer) → IsLibrary problem.library → IsProblem problem → NoEdgeFails problem.library → Reaches problem limit entries state
     → HasNoReopen entries → answer_of state ≡ Some answer → Accepts problem (log_text_of problem limit entries answer state.branchings (length state.cuts)) answer
 logs_pass problem limit entries state answer right is never reached none answers =
     let lib = problem.library in

@@ -30,9 +30,9 @@ log_lines problem limit entries answer branchings cuts =
     ∷ lines.Limit limit
     ∷ (map (λ e. lines.Entry e) entries ++ lines.Closing answer branchings cuts ∷ [])
 
--- no link's edges fail
-abbrev pub NoLinkFails : LibraryParts → Type 0
-NoLinkFails lib = All (λ link. link.fail ≡ 0) lib.links
+-- no edge of the template can fail
+abbrev pub NoEdgeFails : LibraryParts → Type 0
+NoEdgeFails lib = All (λ e. e.fail ≡ 0) lib.edges
 
 -- the text of lines, each ended by a line feed
 abbrev pub lines_text : List LogLine → List ℕ

@@ -15,7 +15,7 @@ ghost use Rattle.proof_log.specs.declared.log_line.LogLine.{LogLine};
 ghost use Rattle.proof_log.specs.Line.{Line};
 ghost use Rattle.proof_log.specs.Fault.{IsInRange, ListsAscend, BreaksNone, BreaksFirst};
 ghost use Rattle.proof_log.specs.Value.{log_line, text_of, ended, header_text, entry_text, closing_text};
-ghost use Rattle.proof_log.specs.Log.{IsLoggable, NoLinkFails, log_lines, log_text_of, Accepts};
+ghost use Rattle.proof_log.specs.Log.{IsLoggable, NoEdgeFails, log_lines, log_text_of, Accepts};
 
 /// Each line has one spelling: its text determines it.
 pub fn each_line_has_one_spelling()
@@ -73,13 +73,15 @@ pub fn a_log_passes_with_one_answer()
         → Accepts problem bytes a → Accepts problem bytes b → a ≡ b }
 {}
 
-/// The log of a finished search passes. Of a legal history that changes no limit and leads to an
-/// answer, each line can be read, and the whole has at most 2^32 bytes.
+/// The log of a finished search passes, where no edge can fail. Of a legal history that changes no
+/// limit and leads to an answer, each line can be read, and the whole has at most 2^32 bytes.
 pub fn logs_of_searches_pass()
     ensures { (problem : ProblemParts) (limit : ℕ) (entries : List Entry) (state : SearchState)
         (answer : Answer)
-        → IsLibrary problem.library → IsProblem problem → NoLinkFails problem.library
+        → IsLibrary problem.library → IsProblem problem → NoEdgeFails problem.library
         → Reaches problem limit entries state → HasNoReopen entries
         → answer_of state ≡ Some answer
-        → Accepts problem (log_text_of problem limit entries answer state.branchings (length state.cuts)) answer }
+        → Accepts problem
+        (log_text_of problem limit entries answer state.branchings (length state.cuts))
+        answer }
 {}

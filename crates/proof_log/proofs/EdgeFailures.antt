@@ -1,9 +1,9 @@
--- Where no link fails, a right cut's set has components alone.
-use Rattle.std.proofs.Common.{◌≡◌, ℕ, zero, suc, ◌-◌, ◌*◌, ◌^◌, ◌≤◌, ◌<◌, true, false, not, nat_eq, List, [], ◌∷◌, ◌++◌, map, filter, length, get_or, refl, sym, ap, subst, ◌∙◌, arith, inl, inr}
+-- Where no edge fails, a right cut's set has components alone.
+use Rattle.std.proofs.Common.{◌≡◌, ℕ, ◌-◌, ◌*◌, ◌^◌, ◌≤◌, ◌<◌, true, false, not, nat_eq, List, [], ◌∷◌, ◌++◌, map, filter, length, refl, sym, ap, subst, ◌∙◌, arith, inl, inr}
 use Rattle.std.specs.Prelude.{IsTrue}
-use Rattle.std.specs.List.{AllByRecursion, flat_map, fold}
+use Rattle.std.specs.List.{All, AllByRecursion, flat_map, fold}
 use Rattle.std.proofs.lemmas.Bool.{eqb-true, cases_lt}
-use Rattle.std.proofs.lemmas.List.Elements.{recursion_from_All}
+use Rattle.std.proofs.lemmas.List.Elements.{All-from_recursion, recursion_from_All}
 use Rattle.arch_model.specs.declared.template.Component.{Component}
 use Rattle.arch_model.specs.declared.template.Edge.{Edge}
 use Rattle.arch_model.specs.declared.library.LinkRow.{LinkRow}
@@ -18,7 +18,7 @@ use Rattle.arch_model.proofs.Ranges.{blank_edge, fail_of_edge}
 use Rattle.arch_model.proofs.Members.{or_cases, is_in-members}
 use Rattle.redundancy_cut.specs.RightCut.{IsRightRedundancy}
 use Rattle.proof_log.specs.Line.{SET_NUMBERS}
-use Rattle.proof_log.specs.Log.{NoLinkFails}
+use Rattle.proof_log.specs.Log.{NoEdgeFails}
 
 -- ---- no edge fails
 
@@ -43,17 +43,15 @@ each_link components [] never = tt
 each_link components (link ∷ links) never =
     joined (edges_of_link components link) (edges_of components links) (each_tail link (instances_of components link.to) (instances_of components link.from) never.0) (each_link components links never.1)
 
-at_place : (edges : List Edge) (k : ℕ) → AllByRecursion NeverFails edges → k < length edges → (get_or edges k blank_edge).fail ≡ 0
-at_place [] k all short = refl
-at_place (e ∷ edges) zero all short = all.0
-at_place (e ∷ edges) (suc k) all short = at_place edges k all.1 (omega arith)
+-- a library whose links never fail has no edge that does
+pub no_edge_fails : (lib : LibraryParts) → IsLibrary lib → All (λ link. link.fail ≡ 0) lib.links → NoEdgeFails lib
+no_edge_fails lib right never =
+    subst (All NeverFails) (sym right.edges)
+    (All-from_recursion NeverFails (edges_of (components_of lib.types) lib.links) (each_link (components_of lib.types) lib.links (recursion_from_All (λ (link : LinkRow). link.fail ≡ 0) lib.links never)))
 
-module _ (lib : LibraryParts) (right : IsLibrary lib) (never : NoLinkFails lib) where
-  edges_never : AllByRecursion NeverFails lib.edges
-  edges_never = subst (AllByRecursion NeverFails) (sym right.edges) (each_link (components_of lib.types) lib.links (recursion_from_All (λ (link : LinkRow). link.fail ≡ 0) lib.links never))
-
+module _ (lib : LibraryParts) (right : IsLibrary lib) (never : NoEdgeFails lib) where
   edge_never : (v : ℕ) → length lib.components ≤ v → v < member_count lib → fail_of lib v ≡ 0
-  edge_never v far short = sym (fail_of_edge lib v far short) ∙ at_place lib.edges (v - length lib.components) edges_never (omega arith)
+  edge_never v far short = sym (fail_of_edge lib v far short) ∙ never (v - length lib.components) blank_edge (omega arith)
 
   -- ---- a product with a member that never fails
 
