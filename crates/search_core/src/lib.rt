@@ -52,3 +52,6 @@ pub use rule::Rule;
 pub use sought::Sought;
 pub use state::{State, start};
 pub use stepping::{StepError, step};
+
+#[cfg(test)]
+mod tests;
