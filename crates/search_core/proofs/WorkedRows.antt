@@ -1,5 +1,5 @@
 -- Worked rows: the history of a search for the best of two components, entry by entry, and what holds on the way.
-use Rattle.std.proofs.Common.{◌≡◌, ℕ, ◌+◌, ◌*◌, ◌^◌, ◌<◌, ◌≤◌, lit<, lit≤, Bool, true, false, nat_eq, nat_lt, ◌&&◌, cond, if◌then◌else◌, pos, List, [], ◌∷◌, map, length, filter, Option, Some, None, refl, sym, ap, subst, ◌∙◌, arith, inl, inr}
+use Rattle.std.proofs.Common.{◌≡◌, ℕ, ◌+◌, ◌<◌, ◌≤◌, lit<, lit≤, Bool, true, false, nat_eq, nat_lt, cond, if◌then◌else◌, pos, List, [], ◌∷◌, map, length, Option, Some, None, refl, sym, ap, subst, ◌∙◌, arith, inl, inr}
 use Rattle.std.specs.Prelude.{IsTrue, sum_by, count_by}
 use Rattle.std.specs.List.{All, AllByRecursion, list_all}
 use Rattle.std.specs.Ordering.{nat_cmp, eq_by_cmp}
@@ -9,32 +9,27 @@ use Rattle.std.proofs.lemmas.Bool.{cases_eq, ltb-true}
 use Rattle.std.proofs.lemmas.List.Elements.{All-from_recursion}
 use Rattle.arch_model.specs.declared.limits.TheConstants.{MEMBERS}
 use Rattle.arch_model.specs.declared.library.TypeRow.{TypeRow}
-use Rattle.arch_model.specs.declared.library.Pattern.{Pattern}
 use Rattle.arch_model.specs.declared.library.Pattern.TheVariants.{Count}
 use Rattle.arch_model.specs.declared.template.Edge.{Edge}
 use Rattle.arch_model.specs.declared.template.Role.TheVariants.{Source}
 use Rattle.arch_model.specs.Set.{has, empty, put as with_member}
-use Rattle.arch_model.specs.Parts.{LibraryParts, ArchitectureParts}
+use Rattle.arch_model.specs.Parts.{LibraryParts}
 use Rattle.arch_model.specs.Library.{library_parts}
 use Rattle.arch_model.specs.Template.{template_of}
-use Rattle.arch_model.specs.Member.{member_count, is_present}
+use Rattle.arch_model.specs.Member.{is_present}
 use Rattle.arch_model.specs.Architecture.{IsArchitecture, present_components, present_edges, cost_of}
 use Rattle.arch_model.specs.Pattern.{MeetsPattern}
 use Rattle.arch_model.specs.Admissible.{IsAdmissible}
 use Rattle.arch_model.proofs.Members.{and_left}
 use Rattle.arch_model.proofs.SetLaws.{has-empty}
-use Rattle.rows.specs.declared.row.Term.{Term}
 use Rattle.rows.specs.declared.known.Pair.{Pair}
-use Rattle.rows.specs.declared.known.RowRef.{RowRef}
 use Rattle.rows.specs.declared.known.RowRef.TheVariants.{Base, Cost}
-use Rattle.rows.specs.Parts.{RowParts, CubeParts, ProblemParts, KnownParts}
+use Rattle.rows.specs.Parts.{RowParts, CubeParts, ProblemParts}
 use Rattle.rows.specs.Row.{term}
 use Rattle.rows.specs.Cube.{whole, fixed_at, is_free, IsCube, IsFull, LiesIn}
-use Rattle.rows.specs.Activity.{is_refuted, IsQuietAt}
-use Rattle.rows.specs.Inner.Quiet.{is_quiet_at}
+use Rattle.rows.specs.Activity.{is_refuted}
 use Rattle.rows.specs.Known.{known_rows, IsQuiet, has_row}
 use Rattle.rows.specs.BaseRows.{base_rows_of}
-use Rattle.rows.specs.Reason.{IsReason}
 use Rattle.rows.specs.Ascent.{is_ascent_refuted}
 use Rattle.rows.proofs.QuietRows.{all_tested}
 use Rattle.rows.proofs.CubeLaws.{lies_fixed}
@@ -42,12 +37,12 @@ use Rattle.redundancy_cut.specs.CutRow.{set_of_numbers}
 use Rattle.incumbent.specs.declared.best.Best.{Best}
 use Rattle.incumbent.specs.Best.{best_cost}
 use Rattle.search_core.specs.declared.entry.Entry.{Entry}
-use Rattle.search_core.specs.declared.entry.Entry.TheVariants.{Take, Branch, Prune, Offer, Study, Publish, Accept, Park, Reopen}
+use Rattle.search_core.specs.declared.entry.Entry.TheVariants.{Take, Branch, Prune, Offer, Study, Accept, Park, Reopen}
 use Rattle.search_core.specs.declared.answer.Answer.TheVariants.{Optimal, Infeasible, NodeLimit}
 use Rattle.search_core.specs.Node.{Node, Open, Held, Pending, Studied, Parked, EachNode, node_cube, is_open, is_pending, is_parked}
 use Rattle.search_core.specs.State.{SearchState, start_of, known_at}
 use Rattle.search_core.specs.Candidate.{candidate_of, set_where}
-use Rattle.search_core.specs.Step.{Step, IsTraced, with_node}
+use Rattle.search_core.specs.Step.{Step, IsTraced}
 use Rattle.search_core.specs.History.{Steps, Reaches, IsLegal, IsComplete}
 use Rattle.search_core.specs.Diligent.{IsDiligent, IsQuietAfter, TakesLast, StudiesLast}
 use Rattle.search_core.specs.Answers.{answer_by, answer_of}
@@ -55,7 +50,6 @@ use Rattle.search_core.specs.Invariant.{SearchInvariant, KnowsOld, HasCandidate,
 use Rattle.search_core.proofs.NodeMap.{ties, not_tied}
 use Rattle.search_core.proofs.Places.{get-map, entries-map, set_map, remove_map, push_map}
 use Rattle.search_core.proofs.Options.{none_is_some, same_some}
-use Rattle.search_core.proofs.Determined.{same_held}
 use Rattle.search_core.proofs.Candidates.{has-where}
 
 -- the live nodes of a list, by number
