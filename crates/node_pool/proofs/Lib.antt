@@ -1,7 +1,6 @@
 pub mod Workers
 pub mod Appending
 pub mod Beginning
-pub mod Publishing
 pub mod Outcomes
 pub mod Handing
 pub mod Exactly

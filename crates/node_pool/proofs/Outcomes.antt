@@ -34,7 +34,7 @@ use Rattle.node_pool.specs.declared.ticket.StudyTicket.{StudyTicket}
 use Rattle.node_pool.specs.Parts.{PoolParts}
 use Rattle.node_pool.specs.Pool.{IsPool}
 use Rattle.node_pool.specs.Inner.Appending.{MayAppend}
-use Rattle.node_pool.proofs.Publishing.{chosen_may_publish}
+use Rattle.search_core.proofs.Publishing.{chosen_may_publish}
 use Rattle.node_pool.proofs.Workers.{pool_is_worked}
 use Rattle.node_pool.specs.Tickets.{IsHeldFor, IsStudiedFor, MustPublish, known_for}
 

@@ -65,7 +65,7 @@ pub record Appends (old : PoolParts) (entry : Entry) (new : PoolParts) : Type 0 
   pub history : new.history ≡ old.history ++ entry ∷ []
   pub step : Step old.problem old.state entry new.state
 
--- a pool at its beginning: it runs from a state, its history is empty, and it isn't short
+-- a pool at its beginning: it runs from a state, its history is empty, there is no room for an entry yet, and it isn't short
 pub record IsNewPool (problem : ProblemParts) (base : SearchState) (workers analysts : ℕ) (pool : PoolParts) : Type 0 where
   pub problem_is : pool.problem ≡ problem
   pub base_is : pool.base ≡ base
@@ -73,4 +73,5 @@ pub record IsNewPool (problem : ProblemParts) (base : SearchState) (workers anal
   pub analysts_are : pool.analysts ≡ analysts
   pub history_is : pool.history ≡ []
   pub state_is : pool.state ≡ base
+  pub spare_is : pool.spare ≡ 0
   pub short_is : pool.short ≡ false

@@ -9,9 +9,9 @@
 //! behind a gate: what it is about is its problem, its base and its team, and its count is the
 //! length of its history.
 //!
-//! A call costs what it touches: the last open node is found from the end of the live ones, and no
-//! call walks the history. `fits` and `copy_cuts` walk the cuts. Only `Pool::new`, `reserve` and
-//! `copy_cuts` take memory.
+//! A call costs what its step costs in `search_core`: the last open node is found from the end of
+//! the live ones, and no call walks the history. `fits` and `copy_cuts` walk the cuts. Only
+//! `Pool::new`, `reserve` and `copy_cuts` take memory.
 //!
 //! It stands on `search_core` for the steps and on `pool_gate` for what may lie behind a gate.
 #![tactic(auto)]

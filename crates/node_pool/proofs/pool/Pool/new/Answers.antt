@@ -11,5 +11,5 @@ invariant_of-result c =
       pool_begins c.in_ok-problem.problem c.args.workers c.args.analysts _ false c.in_ok-base.base.search c.in_ok-state.state.search c.new.result.entries
           (start_is_reached c.in_ok-problem.problem c.args.limit c.in_ok-base.base.search c.requires.limit c.in_ok-base.ensures.search)
           (all_open_at_start c.args.limit c.in_ok-base.base.search c.in_ok-base.ensures.search)
-          c.requires.team (c.in_ok-state.ensures.search ∙ sym c.in_ok-base.ensures.search) c.new.ensures,
+          c.requires.team (c.in_ok-state.ensures.search ∙ sym c.in_ok-base.ensures.search) c.new.ensures.entries,
     )
