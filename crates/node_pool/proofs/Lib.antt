@@ -9,4 +9,5 @@ pub mod Ready
 pub mod CutFronts
 pub mod Studying
 pub mod Counting
+pub mod Closings
 pub mod WorkedRows

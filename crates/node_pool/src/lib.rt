@@ -27,3 +27,6 @@ mod ticket;
 pub use held::Topic;
 pub use pool::Pool;
 pub use ticket::{AtLimit, SearchTicket, StudyTicket, Work};
+
+#[cfg(test)]
+mod tests;
