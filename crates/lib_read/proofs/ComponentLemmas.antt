@@ -1,5 +1,5 @@
 -- Names of components: a type's name, a dot and an index.
-use Rattle.std.proofs.Common.{◌≡◌, ◌≢◌, ℕ, ◌+◌, ◌^◌, ◌<◌, ◌≤◌, Bool, true, false, ◌||◌, nat_le, List, [], ◌∷◌, ◌++◌, map, drop, length, get_or, Option, Some, None, is_some, option_map, cond, refl, sym, ap, ◌∙◌, arith, inl, inr, ◌-◌, le-leb, String, Global, string_bytes}
+use Rattle.std.proofs.Common.{◌≡◌, ◌≢◌, ℕ, ◌+◌, ◌^◌, ◌<◌, ◌≤◌, Bool, true, false, ◌||◌, nat_le, List, [], ◌∷◌, ◌++◌, map, drop, length, get_or, Option, Some, None, IfSome, IfNone, MatchOption, is_some, option_map, cond, refl, sym, ap, ◌∙◌, arith, inl, inr, ◌-◌, le-leb, String, Global, string_bytes}
 use Rattle.std.specs.List.{list_any, flat_map, range_with_len, find}
 use Rattle.std.specs.Str.{bytes_eq}
 use Rattle.std.specs.Cmp.Lexicographic.{bytes_decides}
@@ -55,6 +55,13 @@ pub named_by_none : (name text : List ℕ) (max : ℕ) → max < 2 ^ 64 → ((i 
 named_by_none name text max few none =
     sym (any_of_map (bytes_eq text) (instance_name name) (range_with_len 1 max) ∙ range_lacks (λ k. bytes_eq text (instance_name name k)) 1 max
     (λ k low high. not_equal text (instance_name name k) (none k low (omega arith))))
+
+-- both in one, where an answer for an index says P, and P that it is the test
+pub named_where : (name text : List ℕ) (found : Option ℕ) (max : ℕ) (answer : Bool) → max < 2 ^ 64 → IfSome found (λ i. (text ≡ instance_name name i) × (1 ≤ i) × (i < 2 ^ 64))
+    → IfNone found ((i : ℕ) → 1 ≤ i → i < 2 ^ 64 → text ≢ instance_name name i) → (P : ℕ → Type 0) → MatchOption found (answer ≡ false) P → ((i : ℕ) → P i → answer ≡ nat_le i max)
+    → answer ≡ is_named (map (instance_name name) (range_with_len 1 max)) text
+named_where name text (Some i) max answer few is none P said tells = tells i said ∙ named_index name text i max few is.0 is.1 is.2
+named_where name text None max answer few is none P said tells = said ∙ named_by_none name text max few none
 
 -- the names by the types that were read
 pub same_names : (rs : List Data) → flat_map names_of_type (map type_row rs) ≡ flat_map instance_names rs

@@ -31,10 +31,7 @@ fn is_instance(row: &Value, text: &str) -> bool
 {
     let name = name_in(row);
     let max = number_or(1, row, "max");
-    match index_in(text, name) {
-        Some(index) => index <= max,
-        None => false,
-    }
+    index_in(text, name).is_some_and(|index| index <= max)
 }
 
 // The row of the type whose component has a name, by the types' `max` as they are written.
