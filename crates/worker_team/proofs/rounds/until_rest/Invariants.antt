@@ -1,0 +1,10 @@
+-- All rounds are over one pool's problem, base and team, and each leaves less room for entries.
+use Rattle.node_pool.specs.Pool.{SamePool}
+use Rattle.worker_team.proofs.RoundLaws.{room_left}
+use Rattle.worker_team.proofs.rounds.until_rest.Given as goal
+
+abbrev pub invariant-loop-worked : goal.invariant-loop-worked
+invariant-loop-worked l = SamePool l.initial.pool l.pool
+
+abbrev pub decreases-loop-worked : goal.decreases-loop-worked
+decreases-loop-worked l = room_left l.pool

@@ -1,0 +1,173 @@
+// Problems of small libraries.
+ghost use Rattle.arch_model.specs.Name.{IsTypeName};
+
+use arch_model::{
+    CompId, Library, LinkRow, Memory, Name, Pattern, Requirement, Role, TypeRow, is_library,
+};
+use binary_program::problem_of;
+use rows::Problem;
+use std::process::Abort;
+use template::{expand, has_few_components};
+
+// The problem of a library.
+fn problem(
+    rt: &(impl Abort + AllocGlobal),
+    types: &[TypeRow],
+    links: &[LinkRow],
+    patterns: &[Pattern],
+    requirements: &[Requirement],
+) -> Result<Problem, Memory> {
+    let alloc = rt.alloc();
+    let types = types.to_vec(alloc)?;
+    let links = links.to_vec(alloc)?;
+    assert!(rt; types.len() <= 64);
+    assert!(rt; has_few_components(&types));
+    let template = expand(alloc, &types, &links)?;
+    let patterns = patterns.to_vec(alloc)?;
+    let requirements = requirements.to_vec(alloc)?;
+    assert!(rt; is_library(&types, &links, &template, &patterns, &requirements));
+    problem_of(
+        alloc,
+        Library::new(types, links, template, patterns, requirements),
+    )
+}
+
+// A type that fails this often, in parts per million.
+fn row(name: &str, role: Role, max: u32, cost: u64, fail: u32) -> TypeRow
+    requires { IsTypeName name.now }
+{
+    TypeRow {
+        name: Name::new(name),
+        role,
+        max,
+        cost,
+        supply: 0,
+        demand: 0,
+        fail,
+    }
+}
+
+// A link whose edges have this cost and never fail.
+fn link(from: u32, to: u32, cost: u64) -> LinkRow {
+    LinkRow {
+        from,
+        to,
+        cost,
+        fail: 0,
+    }
+}
+
+// This many instances of a type at least.
+fn count(of: u32, min: u32) -> Pattern {
+    Pattern::Count { of, min, max: None }
+}
+
+// An edge from an instance of the one type into each of the other.
+fn fed(of: u32, from: u32) -> Pattern {
+    Pattern::InDegree {
+        of,
+        from,
+        min: 1,
+        max: None,
+    }
+}
+
+// Two sources of cost 3, of which one at least is present.
+pub(crate) fn one_of_two(rt: &(impl Abort + AllocGlobal)) -> Result<Problem, Memory> {
+    let types = [row("p", Role::Source, 2, 3, 0)];
+    problem(rt, &types, &[], &[count(0, 1)], &[])
+}
+
+// Twelve types of two sources of cost 10, of each type at least one.
+pub(crate) fn twelve_types(rt: &(impl Abort + AllocGlobal)) -> Result<Problem, Memory> {
+    let types = [
+        row("a", Role::Source, 2, 10, 0),
+        row("b", Role::Source, 2, 10, 0),
+        row("c", Role::Source, 2, 10, 0),
+        row("d", Role::Source, 2, 10, 0),
+        row("e", Role::Source, 2, 10, 0),
+        row("f", Role::Source, 2, 10, 0),
+        row("g", Role::Source, 2, 10, 0),
+        row("h", Role::Source, 2, 10, 0),
+        row("i", Role::Source, 2, 10, 0),
+        row("j", Role::Source, 2, 10, 0),
+        row("k", Role::Source, 2, 10, 0),
+        row("l", Role::Source, 2, 10, 0),
+    ];
+    let mut patterns = Vec::new(rt.alloc());
+    for of in 0..12 {
+        patterns.push(count(of, 1))?;
+    }
+    problem(rt, &types, &[], &patterns, &[])
+}
+
+// Generators, buses and a load, whose weight is bounded, in units of 10^-18.
+pub(crate) fn chains(rt: &(impl Abort + AllocGlobal), bound: u64) -> Result<Problem, Memory> {
+    let types = [
+        row("gen", Role::Source, 2, 100, 1000),
+        row("bus", Role::Middle, 2, 20, 100),
+        row("load", Role::Sink, 1, 0, 0),
+    ];
+    let requirements = [Requirement {
+        sink: CompId(4),
+        bound,
+    }];
+    problem(
+        rt,
+        &types,
+        &[link(0, 1, 5), link(1, 2, 5)],
+        &[],
+        &requirements,
+    )
+}
+
+// A source on its own beside one that needs two more components. With all of them the sink weighs
+// more than with the first alone, and more than it may.
+pub(crate) fn side_way(rt: &(impl Abort + AllocGlobal)) -> Result<Problem, Memory> {
+    let types = [
+        row("a", Role::Source, 1, 10, 200_000),
+        row("c", Role::Source, 1, 1, 0),
+        row("b1", Role::Middle, 1, 1, 600_000),
+        row("b2", Role::Middle, 1, 1, 600_000),
+        row("t", Role::Sink, 1, 0, 0),
+    ];
+    let links = [link(0, 4, 0), link(1, 2, 0), link(2, 3, 0), link(3, 4, 0)];
+    let requirements = [Requirement {
+        sink: CompId(4),
+        bound: 220_000_000_000_000_000,
+    }];
+    problem(rt, &types, &links, &[], &requirements)
+}
+
+// A component of a network of two buses, with what it supplies and what it demands.
+fn powered(name: &str, role: Role, max: u32, supply: u64, demand: u64) -> TypeRow
+    requires { IsTypeName name.now }
+{
+    let mut powered = row(name, role, max, 0, 0);
+    powered.supply = supply;
+    powered.demand = demand;
+    powered
+}
+
+// Three generators that supply 2 each, and two buses that each serve a load of 3. An edge from a
+// generator to a bus costs 10, and all else nothing: each bus needs two of its three.
+pub(crate) fn two_buses(rt: &(impl Abort + AllocGlobal)) -> Result<Problem, Memory> {
+    let types = [
+        powered("gen", Role::Source, 3, 2, 0),
+        powered("bus1", Role::Middle, 1, 0, 0),
+        powered("bus2", Role::Middle, 1, 0, 0),
+        powered("load1", Role::Sink, 1, 0, 3),
+        powered("load2", Role::Sink, 1, 0, 3),
+    ];
+    let links = [link(0, 1, 10), link(0, 2, 10), link(1, 3, 0), link(2, 4, 0)];
+    let patterns = [
+        count(0, 3),
+        count(3, 1),
+        count(4, 1),
+        fed(3, 1),
+        fed(4, 2),
+        Pattern::LocalSupply { of: 1 },
+        Pattern::LocalSupply { of: 2 },
+    ];
+    problem(rt, &types, &links, &patterns, &[])
+}
