@@ -6,7 +6,7 @@ use Rattle.proof_log.specs.declared.log_line.TheConstants.{LINE_BYTES}
 use Rattle.proof_log.specs.declared.log_line.LineFault.{LineFault}
 use Rattle.proof_log.specs.declared.log_line.LineFault.TheVariants.{Form, Number, Order, TooLong}
 use Rattle.proof_log.specs.Line.{Line}
-use Rattle.proof_log.specs.Fault.{IsInRange, ListsAscend, HasForm, HasNumbers, HasOrder, BreaksNone, BreaksFirst}
+use Rattle.proof_log.specs.Fault.{IsInRange, ListsAscend, HasForm, HasNumbers, HasOrder, BreaksNone, LineBreaksFirst}
 use Rattle.proof_log.specs.Value.{text_of}
 use Rattle.proof_log.specs.Inner.Reading.{whole_line_at, line_of}
 use Rattle.proof_log.proofs.Shapes.{Judgement, Judges}
@@ -50,7 +50,7 @@ read_again bytes line h r up parts = short_line bytes h ∙ ap whole_line_at par
 apart : (f g : LineFault) (r : Judgement) → r ≡ Err f → r ≡ Err g → f ≡ g
 apart f g r a b = let h : err f ≡ err g = sym a ∙ b in cc
 
-whole_fault : (bytes : List ℕ) (f : LineFault) → length bytes ≤ LINE_BYTES → whole_line_at bytes ≡ Err f → BreaksFirst bytes f
+whole_fault : (bytes : List ℕ) (f : LineFault) → length bytes ≤ LINE_BYTES → whole_line_at bytes ≡ Err f → LineBreaksFirst bytes f
 whole_fault bytes TooLong h e = absurd (judged bytes (Err TooLong) e)
 whole_fault bytes Form h e = (h, λ w. whole_has_form w.0 w.1 (ap whole_line_at (sym w.2) ∙ e))
 whole_fault bytes Number h e = (
@@ -71,11 +71,11 @@ whole_fault bytes Order h e = (
 )
 
 -- a fault is the first rule that is broken
-pub fault_is_first : (bytes : List ℕ) (f : LineFault) → line_of bytes ≡ Err f → BreaksFirst bytes f
+pub fault_is_first : (bytes : List ℕ) (f : LineFault) → line_of bytes ≡ Err f → LineBreaksFirst bytes f
 fault_is_first bytes f e = ⊎_elim long (λ (h : length bytes ≤ LINE_BYTES). whole_fault bytes f h (sym (short_line bytes h) ∙ e)) (cases_lt LINE_BYTES (length bytes))
   where
-    long : LINE_BYTES < length bytes → BreaksFirst bytes f
-    long h = let d : TooLong ≡ f = apart TooLong f (line_of bytes) (long_line bytes h) e in let P : LineFault → Type 0 = BreaksFirst bytes in subst P d h
+    long : LINE_BYTES < length bytes → LineBreaksFirst bytes f
+    long h = let d : TooLong ≡ f = apart TooLong f (line_of bytes) (long_line bytes h) e in let P : LineFault → Type 0 = LineBreaksFirst bytes in subst P d h
 
 -- ---- no rule or one
 
@@ -91,7 +91,7 @@ numbers_have_form bytes x = let P : List ℕ → Type 0 = HasForm in subst P (sy
 order_has_numbers : (bytes : List ℕ) → HasOrder bytes → HasNumbers bytes
 order_has_numbers bytes x = (x.0, x.1, x.3)
 
-pub one_first : (bytes : List ℕ) (f g : LineFault) → BreaksFirst bytes f → BreaksFirst bytes g → f ≡ g
+pub one_first : (bytes : List ℕ) (f g : LineFault) → LineBreaksFirst bytes f → LineBreaksFirst bytes g → f ≡ g
 one_first bytes TooLong TooLong a b = refl
 one_first bytes TooLong Form a b = absurd (omega (arith, a, b.0))
 one_first bytes TooLong Number a b = absurd (omega (arith, a, b.0))
@@ -109,13 +109,13 @@ one_first bytes Order Form a b = absurd (b.1 (numbers_have_form bytes a.1))
 one_first bytes Order Number a b = absurd (b.2 a.1)
 one_first bytes Order Order a b = refl
 
-pub none_or_first : (bytes : List ℕ) (f : LineFault) → BreaksNone bytes → BreaksFirst bytes f → ⊥
+pub none_or_first : (bytes : List ℕ) (f : LineFault) → BreaksNone bytes → LineBreaksFirst bytes f → ⊥
 none_or_first bytes TooLong n b = omega (arith, b, n.0)
 none_or_first bytes Form n b = b.1 (numbers_have_form bytes (order_has_numbers bytes n.1))
 none_or_first bytes Number n b = b.2 (order_has_numbers bytes n.1)
 none_or_first bytes Order n b = b.2 n.1
 
-pub none_unless_first : (bytes : List ℕ) → ((f : LineFault) → BreaksFirst bytes f → ⊥) → BreaksNone bytes
+pub none_unless_first : (bytes : List ℕ) → ((f : LineFault) → LineBreaksFirst bytes f → ⊥) → BreaksNone bytes
 none_unless_first bytes never = by (line_of bytes) refl
   where
     by : (r : Judgement) → line_of bytes ≡ r → BreaksNone bytes

@@ -194,14 +194,24 @@ same_log problem limit limit' entries entries' answer answer' branchings branchi
 
 -- ---- passing logs
 
-can_be_logged : (xs : List LogLine) → AllByRecursion IsReadable xs → AllByRecursion IsLoggable xs
+pub can_be_logged : (xs : List LogLine) → AllByRecursion IsReadable xs → AllByRecursion IsLoggable xs
 can_be_logged [] r = tt
 can_be_logged (x ∷ xs) r = (r.0.0, can_be_logged xs r.1)
 
--- a log passes with one answer
-pub one_answer : (problem : ProblemParts) (bytes : List ℕ) (a b : Answer) → Accepts problem bytes a → Accepts problem bytes b → a ≡ b
-one_answer problem bytes a b x y =
-    let lines_x : List LogLine = log_lines problem x.limit x.entries a x.state.branchings (length x.state.cuts) in
-    let lines_y : List LogLine = log_lines problem y.limit y.entries b y.state.branchings (length y.state.cuts) in
-    let t = same_log problem x.limit y.limit x.entries y.entries a b x.state.branchings y.state.branchings (length x.state.cuts) (length y.state.cuts) (can_be_logged lines_x x.readable) (can_be_logged lines_y y.readable) (sym x.text ∙ y.text) in
-    t.2
+-- what passes determines the limit, the entries and the answer
+module _ (problem : ProblemParts) (bytes : List ℕ) (a b : Answer) (x : Accepts problem bytes a) (y : Accepts problem bytes b) where
+  same_accepted : (x.limit ≡ y.limit) × (x.entries ≡ y.entries) × (a ≡ b)
+  same_accepted =
+      let lines_x : List LogLine = log_lines problem x.limit x.entries a x.state.branchings (length x.state.cuts) in
+      let lines_y : List LogLine = log_lines problem y.limit y.entries b y.state.branchings (length y.state.cuts) in
+      let t = same_log problem x.limit y.limit x.entries y.entries a b x.state.branchings y.state.branchings (length x.state.cuts) (length y.state.cuts) (can_be_logged lines_x x.readable) (can_be_logged lines_y y.readable) (sym x.text ∙ y.text) in
+      (t.0, t.1, t.2)
+
+  pub one_limit : x.limit ≡ y.limit
+  one_limit = same_accepted.0
+
+  pub one_history : x.entries ≡ y.entries
+  one_history = same_accepted.1
+
+  pub one_answer : a ≡ b
+  one_answer = same_accepted.2

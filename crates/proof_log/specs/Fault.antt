@@ -41,16 +41,16 @@ abbrev pub BreaksNone : List ℕ → Type 0
 BreaksNone bytes = (length bytes ≤ LINE_BYTES) × HasOrder bytes
 
 -- the first rule that is broken: the line is too long, or it has no line's form, or a number isn't in its range, or a list doesn't ascend
-abbrev pub BreaksFirst : List ℕ → LineFault → Type 0
-BreaksFirst bytes TooLong = LINE_BYTES < length bytes
-BreaksFirst bytes Form = (length bytes ≤ LINE_BYTES) × ¬ HasForm bytes
-BreaksFirst bytes Number = (length bytes ≤ LINE_BYTES) × HasForm bytes × ¬ HasNumbers bytes
-BreaksFirst bytes Order = (length bytes ≤ LINE_BYTES) × HasNumbers bytes × ¬ HasOrder bytes
+abbrev pub LineBreaksFirst : List ℕ → LineFault → Type 0
+LineBreaksFirst bytes TooLong = LINE_BYTES < length bytes
+LineBreaksFirst bytes Form = (length bytes ≤ LINE_BYTES) × ¬ HasForm bytes
+LineBreaksFirst bytes Number = (length bytes ≤ LINE_BYTES) × HasForm bytes × ¬ HasNumbers bytes
+LineBreaksFirst bytes Order = (length bytes ≤ LINE_BYTES) × HasNumbers bytes × ¬ HasOrder bytes
 
 -- want of memory, or the first rule that is broken
 abbrev pub FailsFirst : List ℕ → LineError → Type 0
 FailsFirst bytes errors.Memory = Unit {0}
-FailsFirst bytes (errors.Fault f) = BreaksFirst bytes f
+FailsFirst bytes (errors.Fault f) = LineBreaksFirst bytes f
 
 -- the value was read, unless memory ran out
 abbrev pub Reads : Result LogLine LineError → LogLine → Type 0

@@ -13,7 +13,7 @@ ghost use Rattle.proof_log.specs.declared.log_line.TheConstants.{LINE_BYTES};
 ghost use Rattle.proof_log.specs.declared.log_line.LineFault.{LineFault};
 ghost use Rattle.proof_log.specs.declared.log_line.LogLine.{LogLine};
 ghost use Rattle.proof_log.specs.Line.{Line};
-ghost use Rattle.proof_log.specs.Fault.{IsInRange, ListsAscend, BreaksNone, BreaksFirst};
+ghost use Rattle.proof_log.specs.Fault.{IsInRange, ListsAscend, BreaksNone, LineBreaksFirst};
 ghost use Rattle.proof_log.specs.Value.{log_line, text_of, ended, header_text, entry_text, closing_text};
 ghost use Rattle.proof_log.specs.Log.{IsLoggable, NoEdgeFails, log_lines, log_text_of, Accepts};
 
@@ -38,15 +38,15 @@ pub fn what_is_written_breaks_no_rule()
 /// A line breaks no rule, or exactly one of them first.
 pub fn a_line_breaks_no_rule_or_one_first()
     ensures never_two { (line : List ℕ) (a b : LineFault)
-        → BreaksFirst line a → BreaksFirst line b → a ≡ b }
+        → LineBreaksFirst line a → LineBreaksFirst line b → a ≡ b }
     ensures never_both { (line : List ℕ) (a : LineFault)
-        → BreaksNone line → BreaksFirst line a → ⊥ }
+        → BreaksNone line → LineBreaksFirst line a → ⊥ }
     ensures some { (line : List ℕ)
-        → ((a : LineFault) → BreaksFirst line a → ⊥) → BreaksNone line }
+        → ((a : LineFault) → LineBreaksFirst line a → ⊥) → BreaksNone line }
 {}
 
-/// The text of a log is its header, the lines of its entries and its closing line, so it is what is
-/// written by these calls one after another.
+/// The text of a log is its header, the lines of its entries and its closing line, so it is what
+/// `header`, `write_entry` for each entry and `closing` write one after another.
 pub fn a_log_is_written_line_by_line()
     ensures { (problem : ProblemParts) (limit : ℕ) (entries : List Entry) (answer : Answer)
         (branchings cuts : ℕ)
@@ -67,10 +67,14 @@ pub fn a_text_determines_its_log()
         × (branchings ≡ branchings') × (cuts ≡ cuts') }
 {}
 
-/// A log passes with one answer.
+/// A log passes with one answer, and only as the log of one limit and one history.
 pub fn a_log_passes_with_one_answer()
-    ensures { (problem : ProblemParts) (bytes : List ℕ) (a b : Answer)
+    ensures answer { (problem : ProblemParts) (bytes : List ℕ) (a b : Answer)
         → Accepts problem bytes a → Accepts problem bytes b → a ≡ b }
+    ensures limit { (problem : ProblemParts) (bytes : List ℕ) (a b : Answer)
+        (x : Accepts problem bytes a) (y : Accepts problem bytes b) → x.limit ≡ y.limit }
+    ensures entries { (problem : ProblemParts) (bytes : List ℕ) (a b : Answer)
+        (x : Accepts problem bytes a) (y : Accepts problem bytes b) → x.entries ≡ y.entries }
 {}
 
 /// The log of a finished search passes, where no edge can fail. Of a legal history that changes no
