@@ -19,6 +19,7 @@ pub mod Spelling
 pub mod WholeLogs
 pub mod WorkedRows
 pub mod WorkedLogs
+pub mod PassingLogs
 pub mod LineLengths
 pub mod CostRanges
 pub mod EdgeFailures

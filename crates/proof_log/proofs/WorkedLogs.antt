@@ -20,7 +20,7 @@ unfolding digits one_component
 log_of_one problem c e = rw (c, e) refl
 
 -- one of two components is asked for
-one_of_two : List Entry
+abbrev pub one_of_two : List Entry
 one_of_two =
     Take 0 0 0 None
     ∷ Branch 0 0 [] (record { 0 = 0 })
@@ -32,10 +32,10 @@ one_of_two =
     ∷ Prune 0 1 [] (record { row = Cost; times = 1 } ∷ [])
     ∷ []
 
-log_of_two : (problem : ProblemParts) → length problem.library.components ≡ 2 → length problem.library.edges ≡ 0
+pub log_of_two : (problem : ProblemParts) → length problem.library.components ≡ 2 → length problem.library.edges ≡ 0
     → log_text_of problem 4 one_of_two (Optimal 3) 1 0
     ≡ codes "archex-log 1\nvars 2 0\nlimit 4\ntake 0 0 0 none\nbranch 0 0 - 0\ntake 0 2 0 none\noffer 0 2 b0\nstudy 0 2\naccept 0 2 3\ntake 0 1 0 3\nprune 0 1 - u*1\nanswer optimal 3 1 0\n"
-unfolding digits one_of_two
+unfolding digits
 log_of_two problem c e = rw (c, e) refl
 
 -- a source and a sink that it feeds, whose bound nothing meets

@@ -53,10 +53,10 @@ use Rattle.search_core.proofs.Options.{none_is_some, same_some}
 use Rattle.search_core.proofs.Candidates.{has-where}
 
 -- the live nodes of a list, by number
-abbrev Listed : Type 0
+abbrev pub Listed : Type 0
 Listed = List (ℕ × Node)
 
-abbrev nodes_of : Listed → FinMap nat_cmp Node
+abbrev pub nodes_of : Listed → FinMap nat_cmp Node
 nodes_of es = from_sorted es
 
 abbrev blank : ℕ × Node
@@ -77,7 +77,7 @@ each_listed : (P : ℕ → Node → Type 0) (es : Listed) → is_sorted nat_cmp 
 each_listed P es sorted all i node at = found_in P es i node all (sym (get-map es sorted i) ∙ at)
 
 -- a state under the limit 4 with these live nodes and no cut
-abbrev at : Listed → Option Best → ℕ → SearchState
+abbrev pub at : Listed → Option Best → ℕ → SearchState
 at es best j = record { nodes = nodes_of es; cuts = []; best = best; branchings = j; limit = 4 }
 
 count_listed : (es : Listed) → is_sorted nat_cmp es ≡ true → len (nodes_of es) ≡ length es
@@ -95,16 +95,16 @@ answered limit es best j sorted =
     ∙ ap (λ (l : Listed). if list_all is_parked (map (λ e. e.1) l) then (if nat_eq (length es) 0 then Some (answer_by best) else Some (NodeLimit (best_cost best))) else None) (entries-map es sorted)
 
 -- P: two sources of cost 3, of which one at least is asked for
-abbrev types_p : List TypeRow
+abbrev pub types_p : List TypeRow
 types_p = record { name = 1 ∷ []; role = Source; max = 2; cost = 3; supply = 0; demand = 0; fail = 0 } ∷ []
 
-abbrev lib_p : LibraryParts
+abbrev pub lib_p : LibraryParts
 lib_p = library_parts types_p [] (template_of types_p []) (Count 0 1 None ∷ []) []
 
-abbrev row_p : RowParts
+abbrev pub row_p : RowParts
 row_p = record { terms = term 0 (pos 1) ∷ term 1 (pos 1) ∷ []; least = pos 1 }
 
-abbrev problem_p : ProblemParts
+abbrev pub problem_p : ProblemParts
 problem_p = record { library = lib_p; base = row_p ∷ [] }
 
 p-rows : base_rows_of lib_p ≡ problem_p.base
@@ -115,13 +115,13 @@ p-rows = refl
 abbrev first : CubeParts
 first = fixed_at whole 0 true
 
-abbrev not_first : CubeParts
+abbrev pub not_first : CubeParts
 not_first = fixed_at whole 0 false
 
-abbrev second : CubeParts
+abbrev pub second : CubeParts
 second = fixed_at not_first 1 true
 
-abbrev best_p : Option Best
+abbrev pub best_p : Option Best
 best_p = Some (record { cost = 3; architecture = candidate_of lib_p second })
 
 -- the live nodes from the start on
@@ -149,7 +149,7 @@ at_6 = (1, Open first) ∷ []
 abbrev at_7 : Listed
 at_7 = (1, Held first 0 0 (Some 3)) ∷ []
 
-abbrev at_end : Listed
+abbrev pub at_end : Listed
 at_end = []
 
 -- the start
@@ -305,7 +305,7 @@ take_first = record {
 }
 
 -- the cost row is refuted with the first at 1, since the cost must be below 3
-abbrev cost_alone : List Pair
+abbrev pub cost_alone : List Pair
 cost_alone = record { row = Cost; times = 1 } ∷ []
 
 abbrev traced_first : IsTraced problem_p (at at_7 best_p 1) 0 1 []
@@ -330,7 +330,7 @@ prune_first = record {
 }
 
 -- so the history is legal, and leads to a complete state, whose answer is the best
-abbrev history_p : List Entry
+abbrev pub history_p : List Entry
 history_p =
     Take 0 0 0 None ∷ Branch 0 0 [] (record { 0 = 0 }) ∷ Take 0 2 0 None ∷ Offer 0 2 (Base 0 ∷ []) ∷ Study 0 2 ∷ Accept 0 2 3 ∷ Take 0 1 0 (Some 3)
     ∷ Prune 0 1 [] cost_alone ∷ []
@@ -339,7 +339,7 @@ steps_p : Steps problem_p (at at_start None 0) history_p (at at_end best_p 1)
 steps_p =
     (at at_1 None 0, take_root, (at at_2 None 1, branch_root, (at at_3 None 1, take_second, (at at_4 None 1, offer_second, (at at_5 None 1, study_second, (at at_6 best_p 1, accept_second, (at at_7 best_p 1, take_first, (at at_end best_p 1, prune_first, refl))))))))
 
-reaches_p : Reaches problem_p 4 history_p (at at_end best_p 1)
+pub reaches_p : Reaches problem_p 4 history_p (at at_end best_p 1)
 reaches_p = record {
   few = lit≤ tt;
   steps = let P : SearchState → Type 0 = λ s. Steps problem_p s history_p (at at_end best_p 1) in subst P start_listed steps_p;
@@ -351,7 +351,7 @@ legal_p = (at at_end best_p 1, reaches_p)
 complete_p : IsComplete (at at_end best_p 1)
 complete_p = count_listed at_end refl
 
-answer_p : answer_of (at at_end best_p 1) ≡ Some (Optimal 3)
+pub answer_p : answer_of (at at_end best_p 1) ≡ Some (Optimal 3)
 answer_p = answered 4 at_end best_p 1 refl
 
 -- before it has none, and with no best nothing is admissible
