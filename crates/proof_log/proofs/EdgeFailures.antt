@@ -11,7 +11,7 @@ use Rattle.arch_model.specs.declared.library.Requirement.{Requirement}
 use Rattle.arch_model.specs.Set.{Set, has, members_below}
 use Rattle.arch_model.specs.Parts.{LibraryParts}
 use Rattle.arch_model.specs.Library.{IsLibrary}
-use Rattle.arch_model.specs.Template.{components_of, instances_of, edge_of, edges_to, edges_of_link, edges_of}
+use Rattle.arch_model.specs.Template.{template_of, components_of, instances_of, edge_of, edges_to, edges_of_link, edges_of}
 use Rattle.arch_model.specs.Member.{is_in, fail_of, member_count}
 use Rattle.arch_model.specs.Weight.{product_of, ceil_div}
 use Rattle.arch_model.proofs.Ranges.{blank_edge, fail_of_edge}
@@ -43,11 +43,15 @@ each_link components [] never = tt
 each_link components (link ∷ links) never =
     joined (edges_of_link components link) (edges_of components links) (each_tail link (instances_of components link.to) (instances_of components link.from) never.0) (each_link components links never.1)
 
+-- where the edges are those of links that never fail, no edge does
+pub template_never_fails : (lib : LibraryParts) → lib.edges ≡ (template_of lib.types lib.links).edges → All (λ link. link.fail ≡ 0) lib.links → NoEdgeFails lib
+template_never_fails lib edges never =
+    subst (All NeverFails) (sym edges)
+    (All-from_recursion NeverFails (edges_of (components_of lib.types) lib.links) (each_link (components_of lib.types) lib.links (recursion_from_All (λ (link : LinkRow). link.fail ≡ 0) lib.links never)))
+
 -- a library whose links never fail has no edge that does
 pub no_edge_fails : (lib : LibraryParts) → IsLibrary lib → All (λ link. link.fail ≡ 0) lib.links → NoEdgeFails lib
-no_edge_fails lib right never =
-    subst (All NeverFails) (sym right.edges)
-    (All-from_recursion NeverFails (edges_of (components_of lib.types) lib.links) (each_link (components_of lib.types) lib.links (recursion_from_All (λ (link : LinkRow). link.fail ≡ 0) lib.links never)))
+no_edge_fails lib right never = template_never_fails lib right.edges never
 
 module _ (lib : LibraryParts) (right : IsLibrary lib) (never : NoEdgeFails lib) where
   edge_never : (v : ℕ) → length lib.components ≤ v → v < member_count lib → fail_of lib v ≡ 0
