@@ -22,7 +22,7 @@ pub data Line (N : Type 0) : Type 0 where
   infeasible : N → N → Line N
   node_limit : Option N → N → N → Line N
 
--- what a member of a cut's set has to stay below, as a component of it
+-- what the number of a member of a redundancy cut's set has to stay below: it is a component of the template
 abbrev pub SET_NUMBERS : ℕ
 SET_NUMBERS = COMPONENTS
 

@@ -51,7 +51,7 @@ closing_line (Optimal cost) branchings cuts = optimal cost branchings cuts
 closing_line Infeasible branchings cuts = infeasible branchings cuts
 closing_line (NodeLimit incumbent) branchings cuts = node_limit incumbent branchings cuts
 
--- the line of what is read
+-- the line of what is read or written
 abbrev pub log_line : LogLine → Line ℕ
 log_line lines.Version = version
 log_line (lines.Vars comps edges) = vars comps edges
@@ -89,7 +89,7 @@ abbrev pub CutIsSmall : learned.Cut → Type 0
 CutIsSmall (Redundancy requirement set far) = IsSmall MEMBERS set × IsSmall COMPONENTS far
 CutIsSmall (NoGood requirement cone) = IsSmall COMPONENTS cone
 
--- the same of the cut that an entry publishes
+-- the sets of the cut that an entry publishes hold members, or components, of some template
 abbrev pub EntryIsSmall : Entry → Type 0
 EntryIsSmall (Take worker node cuts bound) = Unit {0}
 EntryIsSmall (Branch worker node trace var) = Unit {0}
@@ -101,7 +101,7 @@ EntryIsSmall (Accept worker node cost) = Unit {0}
 EntryIsSmall (Park worker node) = Unit {0}
 EntryIsSmall (Reopen limit) = Unit {0}
 
--- the same of what a line says
+-- the sets of what a line says hold members, or components, of some template
 abbrev pub HasSmallSets : LogLine → Type 0
 HasSmallSets lines.Version = Unit {0}
 HasSmallSets (lines.Vars comps edges) = Unit {0}

@@ -12,7 +12,10 @@
 //! and a line feed, or nothing; that `read_line` answers the line exactly where the bytes are its
 //! text and break no rule, and else the first rule that is broken; and, in `laws`, that each line
 //! has one spelling. It stands on `search_core` and `rows` for the values, and on `itoa` for
-//! decimals. Reading goes once over the bytes, and only traces and reasons take memory.
+//! decimals.
+//!
+//! Of what it costs no contract speaks: reading goes once over the bytes, and takes memory for the
+//! rows of a trace and the pairs of a reason alone.
 #![tactic(auto)]
 
 mod fields;

@@ -18,8 +18,8 @@ use redundancy_cut::Cut;
 use search_core::{Answer, Entry};
 use std::alloc::Global;
 
-/// What the number of a member in a redundancy cut's set stays below: it is a component, since no
-/// link can fail.
+/// What the number of a member in a redundancy cut's set stays below: a log lists components alone
+/// there, and where no edge can fail the set of a right cut has no other members.
 const SET_NUMBERS: u64 = COMPONENTS as u64;
 
 /// The first line: the version, which has one text.

@@ -11,7 +11,7 @@ pub const LINE_BYTES: usize = 65536;
 /// What a line of a log says.
 #[derive(Drop)]
 pub enum LogLine {
-    /// The first line.
+    /// The first line, which says the version of the format: 1.
     Version,
     /// The numbers of components and edges.
     Vars(u32, u32),

@@ -162,7 +162,8 @@ fn write_offer(worker: u32, node: u32, trace: &Trace, out: &mut Vec<u8>) -> Resu
     write_line(b"offer", &parts, out)
 }
 
-/// Appends the line of an entry. Where memory is wanting, nothing is appended.
+/// Appends the line of an entry. Where memory is wanting, nothing is appended. A cost of 2^63 or
+/// more is written too, though `read_line` refuses it.
 pub fn write_entry(entry: &Entry, out: &mut Vec<u8>) -> Result<(), Memory>
     ensures ok { OnOk result (out.new.items ≡ out.old.items ++ ended (entry_text entry.now)) }
     ensures err { OnErr result (out.new.items ≡ out.old.items) }
@@ -205,7 +206,8 @@ pub fn write_entry(entry: &Entry, out: &mut Vec<u8>) -> Result<(), Memory>
 }
 
 /// Appends the closing line: the answer, and the numbers of branchings and of cuts. Where memory is
-/// wanting, nothing is appended.
+/// wanting, nothing is appended. A cost of 2^63 or more is written too, though `read_line` refuses
+/// it.
 pub fn closing(answer: &Answer, branchings: u32, cuts: u32, out: &mut Vec<u8>) -> Result<(), Memory>
     ensures ok { OnOk result (out.new.items ≡ out.old.items
         ++ ended (closing_text answer.now branchings cuts)) }
