@@ -1,8 +1,15 @@
+ghost use Rattle.arch_model.specs.Name.{IsTypeName};
+
 use crate::{LINE_BYTES, LineError, LineFault, LogLine, closing, header, read_line, write_entry};
-use arch_model::{Library, Template};
+use arch_model::{Library, LinkRow, Memory, Name, Role, Template, TypeRow, is_library};
+use binary_program::problem_of;
+use redundancy_cut::Cut;
 use rows::Problem;
+use search_core::{Answer, Entry};
 use std::alloc::Global;
+use std::process::Abort;
 use std::test::Fail;
+use template::{expand, has_few_components};
 
 // The lines of entries and the closing lines of logs of three small libraries, and of logs that
 // differ from them, and lines with the greatest numbers and with longer lists.
@@ -69,39 +76,155 @@ fn rewritten(alloc: Global, line: &[u8]) -> Result<Vec<u8>, Fail> {
     Ok(out)
 }
 
+// Compares a line with what is written for what is read of it.
+fn expect_again(rt: &(impl Abort + AllocGlobal), line: &[u8]) -> Result<(), Fail> {
+    let mut text = Vec::from_slice(rt.alloc(), line)?;
+    text.push(b'\n')?;
+    assert_eq!(rt; rewritten(rt.alloc(), line)?.as_slice(), text.as_slice());
+    Ok(())
+}
+
 #[test]
 fn lines_are_read_and_written_again(rt: HostRuntime) -> Result<(), Fail> {
     for line in LINES {
-        let mut text = Vec::from_slice(rt.alloc(), line.as_bytes())?;
-        text.push(b'\n')?;
-        assert_eq!(rt;
-            rewritten(rt.alloc(), line.as_bytes())?.as_slice(),
-            text.as_slice()
-        );
+        expect_again(&rt, line.as_bytes())?;
     }
     Ok(())
 }
 
-// Header lines, and the numbers that they say.
-const HEADERS: [(&str, u32, u32); 10] = [
-    ("archex-log 1", 0, 0),
-    ("vars 1 0", 1, 0),
-    ("vars 2 0", 2, 0),
-    ("vars 2 1", 2, 1),
-    ("vars 4294967295 4294967295", 4294967295, 4294967295),
-    ("limit 0", 0, 0),
-    ("limit 4", 4, 0),
-    ("limit 8", 8, 0),
-    ("limit 100001", 100001, 0),
-    ("limit 4294967295", 4294967295, 0),
+// The requirement that a cut is about.
+fn requirement_of(cut: &Cut) -> u32 {
+    match cut {
+        Cut::Redundancy { requirement, .. } => *requirement,
+        Cut::NoGood { requirement, .. } => *requirement,
+    }
+}
+
+// The worker and the node of an entry, and its cuts, variable, requirement, cost or limit, with 0
+// for what it hasn't.
+fn numbers_of(entry: &Entry) -> (u32, u32, u64) {
+    match entry {
+        Entry::Take {
+            worker,
+            node,
+            cuts,
+            ..
+        } => (*worker, *node, u64::from(*cuts)),
+        Entry::Branch {
+            worker,
+            node,
+            var,
+            ..
+        } => (*worker, *node, u64::from(var.0)),
+        Entry::Prune { worker, node, .. } => (*worker, *node, 0),
+        Entry::Offer { worker, node, .. } => (*worker, *node, 0),
+        Entry::Study { worker, node } => (*worker, *node, 0),
+        Entry::Publish { worker, node, cut } => (*worker, *node, u64::from(requirement_of(cut))),
+        Entry::Accept { worker, node, cost } => (*worker, *node, *cost),
+        Entry::Park { worker, node } => (*worker, *node, 0),
+        Entry::Reopen { limit } => (0, 0, u64::from(*limit)),
+    }
+}
+
+// The numbers of an entry that was read.
+fn entry_numbers(alloc: Global, line: &[u8]) -> Option<(u32, u32, u64)> {
+    match read_line(alloc, line) {
+        Ok(LogLine::Entry(entry)) => Some(numbers_of(&entry)),
+        Ok(_) => None,
+        Err(_) => None,
+    }
+}
+
+// Lines of entries whose numbers all differ, and these numbers.
+const NUMBERED: [(&str, u32, u32, u64); 10] = [
+    ("take 3 7 2 35", 3, 7, 2),
+    ("branch 3 7 b2,c0 10", 3, 7, 10),
+    ("prune 3 7 - u*1", 3, 7, 0),
+    ("offer 3 7 b0", 3, 7, 0),
+    ("study 3 7", 3, 7, 0),
+    ("publish 3 7 redundancy 15 0,5 1,2", 3, 7, 15),
+    ("publish 3 7 nogood 1 0,4", 3, 7, 1),
+    ("accept 3 7 40", 3, 7, 40),
+    ("park 3 7", 3, 7, 0),
+    ("reopen 12", 0, 0, 12),
 ];
 
-// The numbers of a header line that was read, with 0 for those that it hasn't.
-fn numbers_of(alloc: Global, line: &[u8]) -> Option<(u32, u32)> {
+#[test]
+fn entries_say_their_numbers(rt: HostRuntime) {
+    for (line, worker, node, other) in NUMBERED {
+        assert_eq!(rt;
+            entry_numbers(rt.alloc(), line.as_bytes()),
+            Some((worker, node, other))
+        );
+    }
+}
+
+// The answer of a closing line that was read.
+fn answer_of(alloc: Global, line: &[u8]) -> Option<(Answer, u32, u32)> {
     match read_line(alloc, line) {
-        Ok(LogLine::Version) => Some((0, 0)),
-        Ok(LogLine::Vars(components, edges)) => Some((components, edges)),
-        Ok(LogLine::Limit(limit)) => Some((limit, 0)),
+        Ok(LogLine::Closing(answer, branchings, cuts)) => Some((answer, branchings, cuts)),
+        Ok(_) => None,
+        Err(_) => None,
+    }
+}
+
+// Closing lines, and their answers.
+const ANSWERS: [(&str, Answer); 4] = [
+    ("answer optimal 7 6 2", Answer::Optimal { cost: 7 }),
+    ("answer infeasible none 6 2", Answer::Infeasible),
+    (
+        "answer nodelimit none 6 2",
+        Answer::NodeLimit { incumbent: None },
+    ),
+    (
+        "answer nodelimit 5 6 2",
+        Answer::NodeLimit { incumbent: Some(5) },
+    ),
+];
+
+#[test]
+fn closing_lines_say_their_answers(rt: HostRuntime) {
+    for (line, answer) in ANSWERS {
+        assert_eq!(rt;
+            answer_of(rt.alloc(), line.as_bytes()),
+            Some((answer, 6, 2))
+        );
+    }
+}
+
+// A header line with its numbers.
+#[derive(Clone, Copy, Debug, PartialEq, Eq)]
+enum Header {
+    Version,
+    Vars(u32, u32),
+    Limit(u32),
+}
+
+// Header lines, and what they say.
+const HEADERS: [(&str, Header); 12] = [
+    ("archex-log 1", Header::Version),
+    ("vars 1 0", Header::Vars(1, 0)),
+    ("vars 2 0", Header::Vars(2, 0)),
+    ("vars 2 1", Header::Vars(2, 1)),
+    ("vars 3 0", Header::Vars(3, 0)),
+    (
+        "vars 4294967295 4294967295",
+        Header::Vars(4294967295, 4294967295),
+    ),
+    ("limit 0", Header::Limit(0)),
+    ("limit 1", Header::Limit(1)),
+    ("limit 4", Header::Limit(4)),
+    ("limit 8", Header::Limit(8)),
+    ("limit 100001", Header::Limit(100001)),
+    ("limit 4294967295", Header::Limit(4294967295)),
+];
+
+// The header line that was read.
+fn header_of(alloc: Global, line: &[u8]) -> Option<Header> {
+    match read_line(alloc, line) {
+        Ok(LogLine::Version) => Some(Header::Version),
+        Ok(LogLine::Vars(components, edges)) => Some(Header::Vars(components, edges)),
+        Ok(LogLine::Limit(limit)) => Some(Header::Limit(limit)),
         Ok(_) => None,
         Err(_) => None,
     }
@@ -109,11 +232,8 @@ fn numbers_of(alloc: Global, line: &[u8]) -> Option<(u32, u32)> {
 
 #[test]
 fn header_lines_say_their_numbers(rt: HostRuntime) {
-    for (line, first, second) in HEADERS {
-        assert_eq!(rt;
-            numbers_of(rt.alloc(), line.as_bytes()),
-            Some((first, second))
-        );
+    for (line, header) in HEADERS {
+        assert_eq!(rt; header_of(rt.alloc(), line.as_bytes()), Some(header));
     }
 }
 
@@ -135,6 +255,73 @@ fn a_header_has_three_lines(rt: HostRuntime) -> Result<(), Fail> {
     header(&empty_problem(rt.alloc()), 200, &mut out)?;
     let text = b"before\narchex-log 1\nvars 0 0\nlimit 200\n";
     assert_eq!(rt; out.as_slice(), text.as_slice());
+    Ok(())
+}
+
+// The problem of a library of types and links, which asks for nothing.
+fn problem_with(
+    rt: &(impl Abort + AllocGlobal),
+    types: &[TypeRow],
+    links: &[LinkRow],
+) -> Result<Problem, Memory> {
+    let alloc = rt.alloc();
+    let types = types.to_vec(alloc)?;
+    let links = links.to_vec(alloc)?;
+    assert!(rt; types.len() <= 64);
+    assert!(rt; has_few_components(&types));
+    let template = expand(alloc, &types, &links)?;
+    let patterns = Vec::new(alloc);
+    let requirements = Vec::new(alloc);
+    assert!(rt; is_library(&types, &links, &template, &patterns, &requirements));
+    problem_of(
+        alloc,
+        Library::new(types, links, template, patterns, requirements),
+    )
+}
+
+// A type with some instances.
+fn row(name: &str, role: Role, max: u32) -> TypeRow
+    requires { IsTypeName name.now }
+{
+    TypeRow {
+        name: Name::new(name),
+        role,
+        max,
+        cost: 1,
+        supply: 0,
+        demand: 0,
+        fail: 0,
+    }
+}
+
+// Compares a problem's header under a limit, and drops the problem.
+fn expect_header(
+    rt: &(impl Abort + AllocGlobal),
+    problem: Problem,
+    limit: u32,
+    text: &str,
+) -> Result<(), Fail> {
+    let mut out = Vec::new(rt.alloc());
+    header(&problem, limit, &mut out)?;
+    assert_eq!(rt; out.as_slice(), text.as_bytes());
+    Ok(())
+}
+
+#[test]
+fn a_header_counts_components_and_edges(rt: HostRuntime) -> Result<(), Fail> {
+    let one = problem_with(&rt, &[row("x", Role::Source, 1)], &[])?;
+    expect_header(&rt, one, 0, "archex-log 1\nvars 1 0\nlimit 0\n")?;
+    let two = problem_with(&rt, &[row("p", Role::Source, 2)], &[])?;
+    expect_header(&rt, two, 4, "archex-log 1\nvars 2 0\nlimit 4\n")?;
+    let types = [row("s", Role::Source, 1), row("t", Role::Sink, 1)];
+    let links = [LinkRow {
+        from: 0,
+        to: 1,
+        cost: 0,
+        fail: 0,
+    }];
+    let linked = problem_with(&rt, &types, &links)?;
+    expect_header(&rt, linked, 8, "archex-log 1\nvars 2 1\nlimit 8\n")?;
     Ok(())
 }
 
@@ -220,19 +407,30 @@ const FAULTS: [(&str, LineFault); 72] = [
     ("publish 0 2 nogood 0 3,3", LineFault::Order),
 ];
 
-// The rule that a line breaks first, where it is read at all.
-fn fault_of(alloc: Global, line: &[u8]) -> Option<LineFault> {
+// What comes of a line.
+#[derive(Clone, Copy, Debug, PartialEq, Eq)]
+enum Outcome {
+    Read,
+    Breaks(LineFault),
+    Memory,
+}
+
+// Whether a line is read, the rule that it breaks first, or want of memory.
+fn outcome_of(alloc: Global, line: &[u8]) -> Outcome {
     match read_line(alloc, line) {
-        Ok(_) => None,
-        Err(LineError::Memory) => None,
-        Err(LineError::Fault(fault)) => Some(fault),
+        Ok(_) => Outcome::Read,
+        Err(LineError::Fault(fault)) => Outcome::Breaks(fault),
+        Err(LineError::Memory) => Outcome::Memory,
     }
 }
 
 #[test]
 fn the_first_broken_rule_is_told(rt: HostRuntime) {
     for (line, fault) in FAULTS {
-        assert_eq!(rt; fault_of(rt.alloc(), line.as_bytes()), Some(fault));
+        assert_eq!(rt;
+            outcome_of(rt.alloc(), line.as_bytes()),
+            Outcome::Breaks(fault)
+        );
     }
 }
 
@@ -245,23 +443,28 @@ fn repeated(alloc: Global, first: &[u8], again: &[u8], times: usize) -> Result<V
     Ok(line)
 }
 
+// Compares what comes of a line.
+fn expect_outcome(rt: &(impl Abort + AllocGlobal), line: &[u8], outcome: Outcome) {
+    assert_eq!(rt; outcome_of(rt.alloc(), line), outcome);
+}
+
 #[test]
 fn a_line_may_have_so_many_bytes(rt: HostRuntime) -> Result<(), Fail> {
     let mut line = repeated(rt.alloc(), b"offer 0 10 b0", b",b0", 21841)?;
     assert_eq!(rt; line.len(), LINE_BYTES);
-    assert_eq!(rt; fault_of(rt.alloc(), &line), None);
+    expect_again(&rt, &line)?;
     line.push(b' ')?;
-    assert_eq!(rt; fault_of(rt.alloc(), &line), Some(LineFault::TooLong));
+    expect_outcome(&rt, &line, Outcome::Breaks(LineFault::TooLong));
     Ok(())
 }
 
 #[test]
 fn a_reason_may_have_so_many_pairs(rt: HostRuntime) -> Result<(), Fail> {
     let mut line = repeated(rt.alloc(), b"prune 0 1 - u*1", b",u*1", 63)?;
-    assert_eq!(rt; fault_of(rt.alloc(), &line), None);
+    expect_again(&rt, &line)?;
     line.extend_from_slice(b",u*1")?;
-    assert_eq!(rt; fault_of(rt.alloc(), &line), Some(LineFault::Form));
+    expect_outcome(&rt, &line, Outcome::Breaks(LineFault::Form));
     line.extend_from_slice(b",u*00")?;
-    assert_eq!(rt; fault_of(rt.alloc(), &line), Some(LineFault::Form));
+    expect_outcome(&rt, &line, Outcome::Breaks(LineFault::Form));
     Ok(())
 }
