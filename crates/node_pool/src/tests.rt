@@ -187,6 +187,7 @@ fn branch_or_park(pool: &mut Pool, ticket: SearchTicket, trace: Trace)
     requires room { 1 ≤ pool.old.spare }
     requires ticket { IsHeldFor pool.old ticket }
     requires branch { MayBranch (known_for pool.old ticket) ticket.cube trace 0 }
+    ensures workers { pool.new.workers ≡ pool.old.workers }
     ensures topic { topic_of pool.new ≡ topic_of pool.old }
     ensures count { length pool.new.history ≡ length pool.old.history + 1 }
 {
@@ -203,6 +204,7 @@ fn search(
     ticket: SearchTicket,
 ) -> Result<(), Fail>
     requires { IsHeldFor pool.old ticket }
+    ensures workers { pool.new.workers ≡ pool.old.workers }
     ensures topic { topic_of pool.new ≡ topic_of pool.old }
     ensures count { OnOk result (length pool.new.history ≡ length pool.old.history + 1) }
 {
@@ -226,8 +228,7 @@ fn search(
 // A study of a ticket's candidate: its one entry.
 fn judge(alloc: Global, pool: &mut Pool, ticket: StudyTicket) -> Result<(), Memory>
     requires { IsStudiedFor pool.old ticket }
-    ensures topic { topic_of pool.new ≡ topic_of pool.old }
-    ensures count { OnOk result (length pool.new.history ≡ length pool.old.history + 1) }
+    ensures { pool.new.workers ≡ pool.old.workers }
 {
     pool.reserve()?;
     laws::tickets_are_ready();
@@ -242,7 +243,7 @@ fn judge(alloc: Global, pool: &mut Pool, ticket: StudyTicket) -> Result<(), Memo
 // A worker takes work, if there is any, and does it. Whether it did any.
 fn work(rt: &(impl Abort + AllocGlobal), pool: &mut Pool, worker: u32) -> Result<bool, Fail>
     requires { worker < pool.old.workers }
-    ensures { topic_of pool.new ≡ topic_of pool.old }
+    ensures { pool.new.workers ≡ pool.old.workers }
 {
     pool.reserve()?;
     match pool.take(worker) {
