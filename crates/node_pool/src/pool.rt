@@ -1,5 +1,5 @@
 // Pools.
-ghost use Rattle.std.specs.Prelude.{◌≡◌, ℕ, ◌<◌, ◌≤◌, length, true, false, IfOk, OnOk};
+ghost use Rattle.std.specs.Prelude.{◌≡◌, ℕ, ◌<◌, ◌≤◌, length, true, false, IfOk, OnOk, OnErr};
 ghost use Rattle.search_core.specs.declared.limits.TheConstants as limits;
 ghost use Rattle.search_core.specs.State.{start_of};
 ghost use Rattle.search_core.specs.History.{IsAllOpen};
@@ -106,10 +106,12 @@ impl Pool {
         }
     }
 
-    /// Makes room for at least one more entry. All else stays. The only error is want of memory.
+    /// Makes room for at least one more entry. All else stays. The only error is want of memory, and
+    /// then all stays.
     pub fn reserve(&mut self) -> Result<(), Memory>
         ensures stays { self.new ≡ record self.old { spare = self.new.spare } }
         ensures ok { OnOk result (1 ≤ self.new.spare) }
+        ensures err { OnErr result (self.new ≡ self.old) }
         ensures pool { IsPool self.new }
     {
         self.state.reserve()?;
