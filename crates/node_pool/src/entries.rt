@@ -16,7 +16,7 @@ use crate::pool::Pool;
 use crate::ticket::{AtLimit, SearchTicket, StudyTicket};
 use arch_model::{Library, VarId, cost};
 use redundancy_cut::Cut;
-use rows::{Reason, Trace, variable_count};
+use rows::{Reason, Trace};
 
 impl Pool {
     // The library, and what the type of a pool keeps.
@@ -26,9 +26,7 @@ impl Pool {
         ensures right { IsLibrary self.now.problem.library }
         ensures problem { IsProblem self.now.problem }
     {
-        let lib = self.problem.library();
-        let _count = variable_count(lib);
-        lib
+        self.problem().library()
     }
 
     // The limit on branchings.

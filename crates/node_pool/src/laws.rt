@@ -1,5 +1,5 @@
 //! Laws of pools, each the contract of a function without a body.
-ghost use Rattle.std.specs.Prelude.{◌≡◌, ℕ, ◌+◌, ◌<◌, ◌^◌, List, Option, length};
+ghost use Rattle.std.specs.Prelude.{◌≡◌, ◌⊎◌, ℕ, ◌+◌, ◌<◌, ◌^◌, List, Option, length};
 ghost use Rattle.arch_model.specs.Library.{IsLibrary};
 ghost use Rattle.arch_model.specs.Member.{member_count};
 ghost use Rattle.rows.specs.Parts.{CutParts, ProblemParts};
@@ -13,10 +13,12 @@ ghost use Rattle.search_core.specs.declared.entry.Entry.{Entry};
 ghost use Rattle.node_pool.specs.Parts.{PoolParts};
 ghost use Rattle.node_pool.specs.Pool.{IsPool, Appends};
 ghost use Rattle.node_pool.specs.Topic.{topic_of};
+ghost use Rattle.node_pool.specs.Taking.{HandsOut};
 ghost use Rattle.node_pool.specs.Tickets.{IsHeldFor, IsStudiedFor, BeginAlike, known_for};
 ghost use Rattle.node_pool.specs.Alike.{known_from, KnowAlike};
 ghost use Rattle.node_pool.specs.declared.ticket.SearchTicket.{SearchTicket};
 ghost use Rattle.node_pool.specs.declared.ticket.StudyTicket.{StudyTicket};
+ghost use Rattle.node_pool.specs.declared.ticket.Work.{Work};
 
 /// A legal history of its problem leads to a pool's state, so that what every step of a search
 /// keeps holds there. Where its base is a start, its own history is legal and leads there.
@@ -37,6 +39,16 @@ pub fn an_entry_counts_one()
         → topic_of new ≡ topic_of old }
     ensures count { (old new : PoolParts) (entry : Entry) → Appends old entry new
         → length new.history ≡ length old.history + 1 }
+{}
+
+/// What hands out work leaves what the pool is about, too, and its count stays or rises by one, as
+/// a gate asks.
+pub fn work_counts_at_most_one()
+    ensures topic { (old new : PoolParts) (worker : ℕ) (work : Work) → HandsOut old worker work new
+        → topic_of new ≡ topic_of old }
+    ensures count { (old new : PoolParts) (worker : ℕ) (work : Work) → HandsOut old worker work new
+        → (length new.history ≡ length old.history)
+        ⊎ (length new.history ≡ length old.history + 1) }
 {}
 
 /// What a worker needs of its tickets: what a held ticket knows may be passed as known, its cube is

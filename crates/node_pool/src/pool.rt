@@ -1,5 +1,7 @@
 // Pools.
 ghost use Rattle.std.specs.Prelude.{◌≡◌, ℕ, ◌<◌, ◌≤◌, length, true, false, IfOk, OnOk, OnErr};
+ghost use Rattle.arch_model.specs.Library.{IsLibrary};
+ghost use Rattle.rows.specs.Problem.{IsProblem};
 ghost use Rattle.search_core.specs.declared.limits.TheConstants as limits;
 ghost use Rattle.search_core.specs.State.{start_of};
 ghost use Rattle.search_core.specs.History.{IsAllOpen};
@@ -133,7 +135,11 @@ impl Pool {
     pub fn problem(&self) -> &Problem
         ensures problem { result.now ≡ self.now.problem }
         ensures pool { IsPool self.now }
+        ensures right { IsLibrary self.now.problem.library }
+        ensures rows { IsProblem self.now.problem }
     {
+        // Tells the prover that the library keeps its rules.
+        let _count = variable_count(self.problem.library());
         &self.problem
     }
 
