@@ -1,5 +1,5 @@
 -- By lists of cuts that begin alike the same is known.
-use Rattle.std.proofs.Common.{◌≡◌, ℕ, Bool, false, List, [], ◌∷◌, ◌++◌, map, Option, refl, ap, subst}
+use Rattle.std.proofs.Common.{◌≡◌, ℕ, Bool, false, List, [], ◌∷◌, ◌++◌, map, Option, refl, sym, ap, subst, ◌∙◌, ◌↔◌}
 use Rattle.std.specs.Prelude.{fold, slice_get, option_map, option_and_then, is_some, unwrap_or, pos, ◌*ℤ◌, IsTrue}
 use Rattle.std.specs.List.{All, flat_map, enumerate_from}
 use Rattle.std.specs.Option.{option_map_or, option_to_list}
@@ -13,6 +13,7 @@ use Rattle.rows.specs.Row.{row_of, row_of_cut, int_sum_by}
 use Rattle.rows.specs.Activity.{IsQuietAt, is_refuted, least_forced}
 use Rattle.rows.specs.BaseRows.{cost_row_of}
 use Rattle.rows.specs.Known.{row_at, known_cuts, IsQuiet}
+use Rattle.rows.specs.Outcome.{MayBranch, MayPrune, MayOffer}
 use Rattle.rows.specs.Trace.{cube_after, cube_after_step}
 use Rattle.rows.specs.Reason.{AllThere, is_together, row_of_pair, terms_times, combination_of, empty_row}
 use Rattle.rows.specs.Ascent.{is_ascent_refuted, looked_at, ascent_start, whole_ascent}
@@ -60,12 +61,37 @@ module _ (problem : ProblemParts) (upto : ℕ) (bound : Option ℕ) (some others
   same_refuted : (cube : CubeParts) → is_ascent_refuted a cube ≡ is_ascent_refuted b cube
   same_refuted cube = λ i. option_map_or (λ pairs. same_reason pairs cube i) (option_map (λ u. (same_ascent cube i).pairs) bound) false
 
-  same_quiet : (cube : CubeParts) → IsQuiet a cube → IsQuiet b cube
+  same_quiet : (cube : CubeParts) → IsQuiet a cube ↔ IsQuiet b cube
   same_quiet cube =
-      subst (λ (cuts : List CutParts). All (IsQuietAt cube) (problem.base ++ (map row_of_cut cuts ++ option_to_list (option_map (cost_row_of problem.library) bound)))) alike
+      let P : List CutParts → Type 0 = λ cuts. All (IsQuietAt cube) (problem.base ++ (map row_of_cut cuts ++ option_to_list (option_map (cost_row_of problem.library) bound))) in
+      (subst P alike, subst P (sym alike))
 
-  same_there : (pairs : List Pair) → AllThere a pairs → AllThere b pairs
-  same_there pairs = subst (λ (has : RowRef → Bool). All (λ p. IsTrue (has p.row)) pairs) (λ i r. is_some (same_row r i))
+  same_there : (pairs : List Pair) → AllThere a pairs ↔ AllThere b pairs
+  same_there pairs =
+      let P : (RowRef → Bool) → Type 0 = λ has. All (λ p. IsTrue (has p.row)) pairs in
+      (subst P (λ i r. is_some (same_row r i)), subst P (λ i r. is_some (sym (same_row r) i)))
 
   pub know_alike : KnowAlike a b
   know_alike = record { traces = λ cube trace. same_trace trace cube; quiet = same_quiet; ascents = same_refuted; there = same_there; reasons = same_reason }
+
+  -- what may be done with a cube by the one, may be done by the other
+  pub may_branch : (cube : CubeParts) (trace : List RowRef) (v : ℕ) → MayBranch a cube trace v → MayBranch b cube trace v
+  may_branch cube trace v may = record {
+    after = may.after;
+    leads = sym (same_trace trace cube) ∙ may.leads;
+    quiet = (same_quiet may.after).0 may.quiet;
+    ascent = sym (same_refuted may.after) ∙ may.ascent;
+    variable = may.variable;
+    free = may.free;
+  }
+
+  pub may_prune : (cube : CubeParts) (trace : List RowRef) (pairs : List Pair) → MayPrune a cube trace pairs → MayPrune b cube trace pairs
+  may_prune cube trace pairs may = record {
+    after = may.after;
+    leads = sym (same_trace trace cube) ∙ may.leads;
+    there = (same_there pairs).0 may.there;
+    refuted = sym (same_reason pairs may.after) ∙ may.refuted;
+  }
+
+  pub may_offer : (cube : CubeParts) (trace : List RowRef) → MayOffer a cube trace → MayOffer b cube trace
+  may_offer cube trace may = record { after = may.after; leads = sym (same_trace trace cube) ∙ may.leads; full = may.full; stands = may.stands }

@@ -6,6 +6,9 @@ ghost use Rattle.rows.specs.Parts.{CutParts, ProblemParts};
 ghost use Rattle.rows.specs.Problem.{IsProblem, IsCandidate};
 ghost use Rattle.rows.specs.Cube.{IsCubeBelow};
 ghost use Rattle.rows.specs.Known.{IsKnown};
+ghost use Rattle.rows.specs.Outcome.{MayBranch, MayPrune, MayOffer};
+ghost use Rattle.rows.specs.declared.known.RowRef.{RowRef};
+ghost use Rattle.rows.specs.declared.known.Pair.{Pair};
 ghost use Rattle.search_core.specs.State.{start_of};
 ghost use Rattle.search_core.specs.History.{Reaches, IsReached};
 ghost use Rattle.search_core.specs.Invariant.{SearchInvariant};
@@ -14,7 +17,8 @@ ghost use Rattle.node_pool.specs.Parts.{PoolParts};
 ghost use Rattle.node_pool.specs.Pool.{IsPool, Appends};
 ghost use Rattle.node_pool.specs.Topic.{topic_of};
 ghost use Rattle.node_pool.specs.Taking.{HandsOut};
-ghost use Rattle.node_pool.specs.Tickets.{IsHeldFor, IsStudiedFor, BeginAlike, known_for};
+ghost use Rattle.node_pool.specs.Tickets.{IsHeldFor, IsStudiedFor, BeginAlike, Fits};
+ghost use Rattle.node_pool.specs.Tickets.{known_for};
 ghost use Rattle.node_pool.specs.Alike.{known_from, KnowAlike};
 ghost use Rattle.node_pool.specs.declared.ticket.SearchTicket.{SearchTicket};
 ghost use Rattle.node_pool.specs.declared.ticket.StudyTicket.{StudyTicket};
@@ -67,9 +71,22 @@ pub fn tickets_are_ready()
 {}
 
 /// Where two lists of cuts begin alike, a ticket that knows no more than these cuts knows the same
-/// by either: so what a worker finds out by its own list holds of a pool that the ticket fits.
+/// by either. So what a worker finds out by its own list holds of a pool that the ticket fits: the
+/// node may be split, dropped or offered there where it may be by what the worker knows.
 pub fn equal_fronts_teach_the_same()
-    ensures { (problem : ProblemParts) (upto : ℕ) (bound : Option ℕ) (some others : List CutParts)
-        → BeginAlike upto some others
+    ensures alike { (problem : ProblemParts) (upto : ℕ) (bound : Option ℕ)
+        (some others : List CutParts) → BeginAlike upto some others
         → KnowAlike (known_from problem upto bound some) (known_from problem upto bound others) }
+    ensures branch { (pool : PoolParts) (ticket : SearchTicket) (cuts : List CutParts)
+        (trace : List RowRef) (v : ℕ) → Fits pool ticket cuts
+        → MayBranch (known_from pool.problem ticket.cuts ticket.bound cuts) ticket.cube trace v
+        → MayBranch (known_for pool ticket) ticket.cube trace v }
+    ensures prune { (pool : PoolParts) (ticket : SearchTicket) (cuts : List CutParts)
+        (trace : List RowRef) (reason : List Pair) → Fits pool ticket cuts
+        → MayPrune (known_from pool.problem ticket.cuts ticket.bound cuts) ticket.cube trace reason
+        → MayPrune (known_for pool ticket) ticket.cube trace reason }
+    ensures offer { (pool : PoolParts) (ticket : SearchTicket) (cuts : List CutParts)
+        (trace : List RowRef) → Fits pool ticket cuts
+        → MayOffer (known_from pool.problem ticket.cuts ticket.bound cuts) ticket.cube trace
+        → MayOffer (known_for pool ticket) ticket.cube trace }
 {}
