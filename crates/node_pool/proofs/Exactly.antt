@@ -4,13 +4,14 @@ use Rattle.std.specs.FinMap.{get}
 use Rattle.rows.specs.Parts.{CubeParts}
 use Rattle.search_core.specs.Node.{Open, Pending}
 use Rattle.search_core.specs.Step.{Takes, Studies}
-use Rattle.search_core.specs.History.{IsAtRest, is_at_rest}
+use Rattle.search_core.specs.History.{IsAtRest}
 use Rattle.search_core.proofs.Runs.{parked_at}
 use Rattle.node_pool.specs.declared.ticket.SearchTicket.{SearchTicket}
 use Rattle.node_pool.specs.declared.ticket.StudyTicket.{StudyTicket}
 use Rattle.node_pool.specs.declared.ticket.Work.{Work}
 use Rattle.node_pool.specs.declared.ticket.Work.TheVariants.{Node as ANode, Candidate as ACandidate, Nothing, Done}
 use Rattle.node_pool.specs.Parts.{PoolParts}
+use Rattle.node_pool.proofs.InHand.{no_rest_in_hand}
 use Rattle.node_pool.specs.Taking.{HandsNode, HandsCandidate, HandsOut, IsWaiting}
 
 -- a live node that isn't parked is work, so the state isn't at rest, and one that is open or pending leaves nobody waiting
@@ -33,7 +34,7 @@ module _ (old new : PoolParts) (worker : ℕ) where
       let there = candidate_pended ticket h in (λ e. absurd (differ e), λ rest. never false refl (parked_at old.state rest ticket.node (Pending there.0) there.1)) where
         differ : ACandidate ticket ≡ Done → ⊥
         differ e = cc
-  done_exactly Nothing h = (λ e. absurd (differ e), λ rest. never (is_at_rest old.state) h.1.something rest) where
+  done_exactly Nothing h = (λ e. absurd (differ e), λ rest. absurd (no_rest_in_hand old.state h.1.something rest)) where
     differ : Nothing ≡ Done → ⊥
     differ e = cc
   done_exactly Done h = (λ e. h.1, λ rest. refl)
@@ -48,6 +49,6 @@ module _ (old new : PoolParts) (worker : ℕ) where
         differ : ACandidate ticket ≡ Nothing → ⊥
         differ e = cc
   nothing_exactly Nothing h = (λ e. h.1, λ waits. refl)
-  nothing_exactly Done h = (λ e. absurd (differ e), λ waits. never (is_at_rest old.state) waits.something h.1) where
+  nothing_exactly Done h = (λ e. absurd (differ e), λ waits. absurd (no_rest_in_hand old.state waits.something h.1)) where
     differ : Done ≡ Nothing → ⊥
     differ e = cc

@@ -3,6 +3,7 @@ pub mod Appending
 pub mod Beginning
 pub mod Outcomes
 pub mod Handing
+pub mod InHand
 pub mod Exactly
 pub mod Sharing
 pub mod Ready

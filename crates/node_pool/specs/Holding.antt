@@ -1,8 +1,8 @@
 -- What a worker holds or studies.
-use Rattle.std.specs.Prelude.{◌≡◌, ℕ, false}
-use Rattle.search_core.specs.declared.sought.Sought.TheVariants.{Of}
-use Rattle.search_core.specs.Node.{EachNode}
-use Rattle.search_core.specs.Sought.{sought_by, IsLastSought}
+use Rattle.std.specs.Prelude.{◌≡◌, ℕ, ◌||◌}
+use Rattle.search_core.specs.Node.{is_held_by, is_studied_by}
+use Rattle.search_core.specs.Step.{IsHeldBy, IsStudied}
+use Rattle.search_core.specs.Sought.{IsLastSought}
 use Rattle.node_pool.specs.declared.ticket.SearchTicket.{SearchTicket}
 use Rattle.node_pool.specs.declared.ticket.StudyTicket.{StudyTicket}
 use Rattle.node_pool.specs.declared.ticket.Work.{Work}
@@ -12,11 +12,11 @@ use Rattle.node_pool.specs.Tickets.{IsHeldFor, IsStudiedFor}
 
 -- a worker holds and studies nothing
 abbrev pub IsIdle : PoolParts → ℕ → Type 0
-IsIdle pool worker = EachNode (λ i node. sought_by (Of worker) node ≡ false) pool.state.nodes
+IsIdle pool worker = (node : ℕ) → (IsHeldBy pool.state worker node → ⊥) × (IsStudied pool.state worker node → ⊥)
 
 -- a number is the greatest of a node that a worker holds or studies
 abbrev pub IsWorkersLast : PoolParts → ℕ → ℕ → Type 0
-IsWorkersLast pool worker number = IsLastSought (sought_by (Of worker)) pool.state.nodes number
+IsWorkersLast pool worker number = IsLastSought (λ node. is_held_by worker node || is_studied_by worker node) pool.state.nodes number
 
 -- a ticket is that of a worker's last node, which it holds
 pub record HasNode (pool : PoolParts) (worker : ℕ) (ticket : SearchTicket) : Type 0 where

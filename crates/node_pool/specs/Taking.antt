@@ -1,8 +1,9 @@
 -- What a pool hands out.
-use Rattle.std.specs.Prelude.{◌≡◌, ℕ, ◌<◌, ◌≤◌, false}
+use Rattle.std.specs.Prelude.{◌≡◌, ◌⊎◌, ℕ, ◌<◌, ◌≤◌}
 use Rattle.search_core.specs.declared.entry.Entry.TheVariants.{Take, Study}
 use Rattle.search_core.specs.State.{SearchState}
-use Rattle.search_core.specs.History.{IsAtRest, is_at_rest}
+use Rattle.search_core.specs.Step.{IsHeldBy, IsStudied}
+use Rattle.search_core.specs.History.{IsAtRest}
 use Rattle.search_core.specs.Diligent.{NothingOpen, NothingPending, IsLastOpen, IsLastPending}
 use Rattle.node_pool.specs.declared.ticket.SearchTicket.{SearchTicket}
 use Rattle.node_pool.specs.declared.ticket.StudyTicket.{StudyTicket}
@@ -28,11 +29,15 @@ pub record HandsCandidate (old : PoolParts) (worker : ℕ) (ticket : StudyTicket
   pub appends : Appends old (Study worker ticket.node) new
   pub studied : IsStudiedFor new ticket
 
+-- some worker holds or studies some node
+abbrev pub IsInHand : SearchState → Type 0
+IsInHand state = (worker : ℕ) × (node : ℕ) × (IsHeldBy state worker node ⊎ IsStudied state worker node)
+
 -- nothing is open or pending, but something is held or under study
 pub record IsWaiting (state : SearchState) : Type 0 where
   pub nothing_open : NothingOpen state
   pub nothing_pending : NothingPending state
-  pub something : is_at_rest state ≡ false
+  pub something : IsInHand state
 
 -- what a worker is handed, and what that does to the pool: Nothing and Done leave it as it was
 abbrev pub HandsOut : PoolParts → ℕ → Work → PoolParts → Type 0
