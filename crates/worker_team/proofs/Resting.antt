@@ -1,11 +1,10 @@
 -- A pool in which nobody has work and nothing is to be handed out is at rest.
-use Rattle.std.proofs.Common.{◌≡◌, ℕ, Bool, true, false, ◌||◌, nat_eq, List, [], ◌∷◌, map, Some, refl, sym, ◌∙◌}
+use Rattle.std.proofs.Common.{◌≡◌, ℕ, Bool, true, false, List, [], ◌∷◌, map, Some, refl, ◌∙◌}
 use Rattle.std.specs.Prelude.{T}
 use Rattle.std.specs.List.{AllByRecursion, list_all}
 use Rattle.std.specs.FinMap.{get, entries, entries_sorted, get-entries}
 use Rattle.std.specs.FinMap.Entries.{is_sorted}
 use Rattle.std.specs.Ordering.{nat_cmp}
-use Rattle.std.proofs.lemmas.Bool.{eq-eqb}
 use Rattle.arch_model.proofs.Members.{and_both}
 use Rattle.search_core.specs.Node.{Node, Open, Held, Pending, Studied, Parked, EachNode, is_parked}
 use Rattle.search_core.specs.State.{SearchState}
@@ -32,23 +31,12 @@ all_parked state all =
     (each_found (λ e. is_parked e.1 ≡ true) (entries state.nodes) (rising_from (entries state.nodes) (passing (is_sorted nat_cmp (entries state.nodes)) (entries_sorted state.nodes)))
     (λ i node at. all i node (get-entries state.nodes i ∙ at)))
 
-or_left : (a b : Bool) → a ≡ true → (a || b) ≡ false → false ≡ true
-or_left true b e f = sym f
-or_left false b e f = e
-
 module _ (pool : PoolParts) (is : IsPool pool) (idle : AllIdle pool) (none_open : NothingOpen pool.state) (none_pending : NothingPending pool.state) where
   parked_there : (i : ℕ) (node : Node) → get pool.state.nodes i ≡ Some node → is_parked node ≡ true
   parked_there i (Open cube) at = absurd (let f : true ≡ false = none_open i (Open cube) at in cc)
-  parked_there i (Held cube w k u) at =
-      absurd (let f : false ≡ true = or_left (nat_eq w w) false (eq-eqb w w refl) (idle w (pool_is_worked pool is i (Held cube w k u) at) i (Held cube w k u) at) in cc)
+  parked_there i (Held cube w k u) at = absurd ((idle w (pool_is_worked pool is i (Held cube w k u) at) i).0 (record { cube = cube; cuts = k; bound = u; held = at }))
   parked_there i (Pending cube) at = absurd (let f : true ≡ false = none_pending i (Pending cube) at in cc)
-  parked_there i (Studied cube w) at =
-      absurd (let f : false ≡ true = or_left (nat_eq w w) false (eq-eqb w w refl) (or_right (idle w (pool_is_worked pool is i (Studied cube w) at) i (Studied cube w) at)) in cc) where
-        or_right : (false || nat_eq w w) ≡ false → (nat_eq w w || false) ≡ false
-        or_right f = swap (nat_eq w w) f where
-          swap : (b : Bool) → (false || b) ≡ false → (b || false) ≡ false
-          swap true g = g
-          swap false g = refl
+  parked_there i (Studied cube w) at = absurd ((idle w (pool_is_worked pool is i (Studied cube w) at) i).1 (record { cube = cube; studied = at }))
   parked_there i (Parked cube) at = refl
 
   pub nothing_is_left : IsAtRest pool.state
