@@ -1,5 +1,5 @@
 // The rows of learned cuts, and lists of them.
-ghost use Rattle.std.specs.Prelude.{◌≡◌, ℕ, ◌<◌, ◌≤◌, ◌-◌, pos, ◌∷◌, [], ◌++◌, length, slice_get, OnOk, OnErr, Some};
+ghost use Rattle.std.specs.Prelude.{◌≡◌, ℕ, ◌<◌, ◌≤◌, ◌-◌, pos, ◌∷◌, [], ◌++◌, length, slice_get, IfOk, OnOk, OnErr, Some};
 ghost use Rattle.std.specs.Prelude.{false, IsTrue};
 ghost use Rattle.rows.specs.Parts.{CutParts, CutListParts};
 ghost use Rattle.rows.specs.Row.{IsSized, cut_coef};
@@ -126,6 +126,15 @@ impl CutList {
         CutList {
             cuts: Vec::new(alloc),
         }
+    }
+
+    /// A copy in its own memory. The only error is want of memory.
+    pub fn copy(&self) -> Result<CutList, Memory>
+        ensures { IfOk result (λ copy. copy.cuts ≡ self.now.cuts) }
+    {
+        Ok(CutList {
+            cuts: self.cuts.clone()?,
+        })
     }
 
     /// How many cuts there are.
