@@ -1,5 +1,5 @@
 // Tickets in a later turn, and copying the cuts.
-ghost use Rattle.std.specs.Prelude.{◌≡◌, ◌↔◌, IsTrue, IsNone, IfSome, IfNone, IfOk, OnOk, OnErr};
+ghost use Rattle.std.specs.Prelude.{◌≡◌, ◌↔◌, IsTrue, IsNone, IfSome, IfNone, OnOk, OnErr};
 ghost use Rattle.search_core.specs.Step.{IsHeldBy, IsStudied};
 ghost use Rattle.node_pool.specs.Tickets.{IsHeldFor, IsStudiedFor, BeginAlike, Fits};
 ghost use Rattle.node_pool.specs.Holding.{IsIdle, HasWork};
@@ -9,7 +9,6 @@ use crate::ticket::{SearchTicket, StudyTicket, Work};
 use arch_model::Memory;
 use rows::{CutList, CutRow};
 use search_core::Sought;
-use std::alloc::Global;
 
 // Whether two cuts are the same.
 fn are_same(one: &CutRow, other: &CutRow) -> bool
@@ -34,17 +33,6 @@ fn begin_alike(count: u32, some: &CutList, others: &CutList) -> bool
         }
     }
     true
-}
-
-// A copy of a list of cuts.
-fn copy_of(alloc: Global, cuts: &CutList) -> Result<CutList, Memory>
-    ensures { IfOk result (λ copy. copy.cuts ≡ cuts.now.cuts) }
-{
-    let mut copy = CutList::new(alloc);
-    for i in 0..cuts.len() {
-        copy.push(cuts.get(i))?;
-    }
-    Ok(copy)
 }
 
 impl Pool {
@@ -145,20 +133,13 @@ impl Pool {
         }
     }
 
-    // A copy of the pool's cuts.
-    fn cuts_copied(&self, alloc: Global) -> Result<CutList, Memory>
-        ensures { IfOk result (λ copy. copy.cuts ≡ self.now.state.cuts) }
-    {
-        copy_of(alloc, self.state.cuts())
-    }
-
     /// Makes a list, whatever it was, that of the pool's cuts. The only error is want of memory,
     /// and then the list stays.
-    pub fn copy_cuts(&self, alloc: Global, into: &mut CutList) -> Result<(), Memory>
+    pub fn copy_cuts(&self, into: &mut CutList) -> Result<(), Memory>
         ensures ok { OnOk result (into.new.cuts ≡ self.now.state.cuts) }
         ensures err { OnErr result (into.new ≡ into.old) }
     {
-        let copy = self.cuts_copied(alloc)?;
+        let copy = self.cuts().copy()?;
         *into = copy;
         Ok(())
     }

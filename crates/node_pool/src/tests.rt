@@ -477,7 +477,7 @@ fn a_ticket_fits_with_its_cuts(rt: HostRuntime) -> Result<(), Fail> {
     let ticket = take_node(&rt, &mut pool, 1)?;
     let mut cuts = CutList::new(rt.alloc());
     assert!(rt; !pool.fits(&ticket, &cuts));
-    pool.copy_cuts(rt.alloc(), &mut cuts)?;
+    pool.copy_cuts(&mut cuts)?;
     assert_eq!(rt; cuts.len(), 1);
     assert!(rt; pool.fits(&ticket, &cuts));
     Ok(())
