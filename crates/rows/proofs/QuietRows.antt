@@ -1,18 +1,22 @@
 -- When all rows of a list are quiet in a cube.
-use Rattle.std.proofs.Common.{◌≡◌, ℕ, ◌+◌, ◌<◌, ◌≤◌, Bool, true, false, not, ◌↔◌, List, take, length, get_or, slice_get, Option, Some, None, is_none, IfSome, refl, sym, ap, subst, ◌∙◌, IsTrue}
+use Rattle.std.proofs.Common.{◌≡◌, ℕ, ◌+◌, ◌<◌, ◌≤◌, Bool, true, false, not, ◌↔◌, List, ◌++◌, map, take, length, get_or, slice_get, Option, option_map, Some, None, is_none, IfSome, refl, sym, ap, subst, ◌∙◌, IsTrue}
 use Rattle.std.specs.List.{list_all, All}
+use Rattle.std.specs.Option.{option_to_list}
 use Rattle.std.proofs.lemmas.Option.{slice_get-get_or}
 use Rattle.std.proofs.lemmas.List.{take_all}
 use Rattle.std.proofs.lemmas.List.Sums.{AllPass-from_list_all, list_all-from_AllPass}
-use Rattle.std.proofs.lemmas.List.Elements.{All-weaker}
+use Rattle.std.proofs.lemmas.List.Elements.{All-weaker, All-from_recursion, recursion_from_All}
 use Rattle.std.proofs.lemmas.List.Folds.{list_all_more, list_all_at}
 use Rattle.arch_model.proofs.Members.{and_left, and_right, and_both}
 use Rattle.rows.specs.declared.known.RowRef.{RowRef}
 use Rattle.rows.specs.Parts.{RowParts, CubeParts, KnownParts}
 use Rattle.rows.specs.Activity.{is_refuted, least_forced, IsQuietAt}
 use Rattle.rows.specs.Reason.{empty_row}
-use Rattle.rows.specs.Known.{row_at, known_rows}
+use Rattle.rows.specs.Row.{row_of_cut}
+use Rattle.rows.specs.BaseRows.{cost_row_of}
+use Rattle.rows.specs.Known.{row_at, known_cuts, known_rows, IsQuiet}
 use Rattle.rows.specs.Inner.Quiet.{is_quiet_at}
+use Rattle.rows.proofs.AllParts.{all_left}
 use Rattle.rows.proofs.LeastForced.{nothing_to, nothing_from}
 
 none_is : {X : Type 0} (o : Option X) → is_none o ≡ true → o ≡ None
@@ -60,3 +64,10 @@ module _ (known : KnownParts) (cube : CubeParts) (r : RowRef) (k : ℕ) (b : Boo
 
 pub quiet_end : (cube : CubeParts) (rows : List RowParts) (k : ℕ) → length rows ≤ k → list_all (is_quiet_at cube) (take k rows) ≡ true → IsTrue true ↔ All (IsQuietAt cube) rows
 quiet_end cube rows k far all = ((λ h. (all_tested cube rows).0 (sym (ap (list_all (is_quiet_at cube)) (take_all k rows far)) ∙ all)), (λ h. refl))
+
+-- in a cube that is quiet for what is known no base row is refuted
+pub base_stands : (known : KnownParts) (cube : CubeParts) → IsQuiet known cube → All (λ row. is_refuted row cube ≡ false) known.problem.base
+base_stands known cube quiet =
+    All-weaker (IsQuietAt cube) (λ row. is_refuted row cube ≡ false) (λ row at. at.open_yet) known.problem.base
+    (All-from_recursion (IsQuietAt cube) known.problem.base
+    (all_left (IsQuietAt cube) known.problem.base (map row_of_cut (known_cuts known) ++ option_to_list (option_map (cost_row_of known.problem.library) known.bound)) (recursion_from_All (IsQuietAt cube) (known_rows known) quiet)))
