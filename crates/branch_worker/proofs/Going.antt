@@ -1,22 +1,18 @@
 -- What closing a cube says of how the search goes on there.
-use Rattle.std.proofs.Common.{◌≡◌, ℤ, ◌<ℤ◌, int_lt, true, false, List, ◌++◌, map, Option, Some, None, option_map, option_to_list, refl, sym, subst, ◌∙◌, arith}
+use Rattle.std.proofs.Common.{◌≡◌, ℤ, ◌<ℤ◌, int_lt, true, false, List, Option, Some, None, refl, sym, subst, ◌∙◌, arith}
 use Rattle.std.specs.Prelude.{IfSome, is_some}
-use Rattle.std.specs.List.{All}
 use Rattle.std.proofs.lemmas.Int.{ints}
-use Rattle.std.proofs.lemmas.List.Elements.{All-weaker, All-from_recursion, recursion_from_All}
 use Rattle.rows.specs.declared.known.RowRef.{RowRef}
 use Rattle.rows.specs.declared.known.Pair.{Pair}
 use Rattle.rows.specs.Parts.{RowParts, CubeParts, KnownParts}
 use Rattle.rows.specs.Cube.{IsFull}
-use Rattle.rows.specs.Activity.{greatest_activity, IsRefuted, is_refuted, IsQuietAt}
-use Rattle.rows.specs.Known.{variables, known_cuts, row_at, known_rows, IsKnown, IsQuiet}
+use Rattle.rows.specs.Activity.{greatest_activity, IsRefuted}
+use Rattle.rows.specs.Known.{variables, row_at, IsKnown, IsQuiet}
 use Rattle.rows.specs.Problem.{IsProblem}
 use Rattle.rows.specs.Trace.{cube_after}
 use Rattle.rows.specs.Reason.{is_together}
 use Rattle.rows.specs.Outcome.{MayPrune}
-use Rattle.rows.specs.Row.{row_of_cut}
-use Rattle.rows.specs.BaseRows.{cost_row_of}
-use Rattle.rows.proofs.AllParts.{all_left}
+use Rattle.rows.proofs.QuietRows.{base_stands}
 use Rattle.rows.proofs.OneRow.{taken_once, refuted_once, there_once}
 use Rattle.propagate.specs.declared.closed.Closed.{Closed}
 use Rattle.propagate.specs.declared.closed.Closed.TheVariants.{Refuted}
@@ -54,9 +50,4 @@ module _ (known : KnownParts) (given cube : CubeParts) (trace : List RowRef) (le
   quiet_after other at = subst (IsQuiet known) (same_after known given cube other trace leads at) quiet
 
   pub offered : IsFull (variables known) cube → IsOutcome known given (Offer trace)
-  offered full = (record { after = cube; leads = leads; full = full; stands = base_stands }, quiet_after) where
-    base_stands : All (λ row. is_refuted row cube ≡ false) known.problem.base
-    base_stands =
-        All-weaker (IsQuietAt cube) (λ row. is_refuted row cube ≡ false) (λ row at. at.open_yet) known.problem.base
-        (All-from_recursion (IsQuietAt cube) known.problem.base
-        (all_left (IsQuietAt cube) known.problem.base (map row_of_cut (known_cuts known) ++ option_to_list (option_map (cost_row_of known.problem.library) known.bound)) (recursion_from_All (IsQuietAt cube) (known_rows known) quiet)))
+  offered full = (record { after = cube; leads = leads; full = full; stands = base_stands known cube quiet }, quiet_after)
