@@ -6,14 +6,14 @@ use Rattle.rows.specs.Parts.{ProblemParts}
 use Rattle.rows.specs.Problem.{IsProblem}
 use Rattle.search_core.specs.declared.entry.Entry.{Entry}
 use Rattle.search_core.specs.State.{SearchState}
-use Rattle.search_core.specs.Step.{Step}
+use Rattle.search_core.specs.Step.{NamesWorkerBelow, Step}
 use Rattle.search_core.specs.History.{is_reopen}
 use Rattle.search_core.specs.Diligent.{IsDiligentAt}
 use Rattle.search_core.proofs.Diligence.{diligent_join}
 use Rattle.search_core.proofs.Counts.{steps_join}
 use Rattle.search_core.proofs.CutRows.{right_cuts}
 use Rattle.search_core.proofs.Runs.{steps_are_few}
-use Rattle.node_pool.specs.Pool.{NamesWorkerBelow, IsPool}
+use Rattle.node_pool.specs.Pool.{IsPool}
 
 -- a pool with one more entry, a diligent step that leads to its state
 pub pool_goes_on : (problem : ProblemParts) (base : SearchState) (workers analysts : ℕ) (history after : List Entry) (state next : SearchState) (spare left : ℕ) (short : Bool) (entry : Entry)

@@ -13,7 +13,8 @@ use Rattle.search_core.specs.declared.entry.Entry.{Entry}
 use Rattle.search_core.specs.Node.{Node, Open, is_open}
 use Rattle.search_core.specs.State.{SearchState, start_of}
 use Rattle.search_core.specs.History.{IsReached, IsAllOpen, is_reopen}
-use Rattle.node_pool.specs.Pool.{NamesWorkerBelow, IsTeam, IsPool}
+use Rattle.search_core.specs.Step.{NamesWorkerBelow}
+use Rattle.node_pool.specs.Pool.{IsTeam, IsPool}
 
 no_entries : (b : ℕ) → 0 ≤ 4 * (2 * b + 1)
 no_entries b = omega arith

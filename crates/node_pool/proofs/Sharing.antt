@@ -12,13 +12,13 @@ use Rattle.rows.specs.Parts.{CubeParts, CutParts, KnownParts, ProblemParts}
 use Rattle.rows.specs.Row.{row_of, row_of_cut, int_sum_by}
 use Rattle.rows.specs.Activity.{IsQuietAt, is_refuted, least_forced}
 use Rattle.rows.specs.BaseRows.{cost_row_of}
-use Rattle.rows.specs.Known.{row_at, known_cuts, IsQuiet}
+use Rattle.rows.specs.Known.{known_from, row_at, known_cuts, IsQuiet}
 use Rattle.rows.specs.Outcome.{MayBranch, MayPrune, MayOffer}
 use Rattle.rows.specs.Trace.{cube_after, cube_after_step}
 use Rattle.rows.specs.Reason.{AllThere, is_together, row_of_pair, terms_times, combination_of, empty_row}
 use Rattle.rows.specs.Ascent.{is_ascent_refuted, looked_at, ascent_start, whole_ascent}
 use Rattle.node_pool.specs.Tickets.{BeginAlike}
-use Rattle.node_pool.specs.Alike.{known_from, KnowAlike}
+use Rattle.node_pool.specs.Alike.{KnowAlike}
 
 module _ (problem : ProblemParts) (upto : ℕ) (bound : Option ℕ) (some others : List CutParts) (same : BeginAlike upto some others) where
   abbrev a : KnownParts

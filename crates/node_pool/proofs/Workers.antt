@@ -8,12 +8,12 @@ use Rattle.search_core.specs.declared.entry.Entry.{Entry}
 use Rattle.search_core.specs.declared.entry.Entry.TheVariants.{Take, Branch, Prune, Offer, Study, Publish, Accept, Park, Reopen}
 use Rattle.search_core.specs.Node.{Node, Open, Held, Pending, Studied, Parked, EachNode, is_open}
 use Rattle.search_core.specs.State.{SearchState}
-use Rattle.search_core.specs.Step.{Takes, Branches, Prunes, Offers, Studies, Accepts, Publishes, Parks, Case}
+use Rattle.search_core.specs.Step.{NamesWorkerBelow, Takes, Branches, Prunes, Offers, Studies, Accepts, Publishes, Parks, Case}
 use Rattle.search_core.specs.History.{Steps, is_reopen}
 use Rattle.search_core.proofs.KeptNodes.{each_insert, each_remove}
 use Rattle.search_core.proofs.NodeMap.{value_at_number}
 use Rattle.node_pool.specs.Parts.{PoolParts}
-use Rattle.node_pool.specs.Pool.{NamesWorkerBelow, IsPool}
+use Rattle.node_pool.specs.Pool.{IsPool}
 
 -- the worker that holds or studies a node has a number below n
 abbrev pub IsWorkedBelow : ℕ → Node → Type 0

@@ -1,16 +1,12 @@
 -- Two workers that know the same.
-use Rattle.std.specs.Prelude.{◌≡◌, ◌↔◌, ℕ, List, Option}
+use Rattle.std.specs.Prelude.{◌≡◌, ◌↔◌, List}
 use Rattle.rows.specs.declared.known.RowRef.{RowRef}
 use Rattle.rows.specs.declared.known.Pair.{Pair}
-use Rattle.rows.specs.Parts.{CubeParts, CutParts, KnownParts, ProblemParts}
+use Rattle.rows.specs.Parts.{CubeParts, KnownParts}
 use Rattle.rows.specs.Known.{IsQuiet}
 use Rattle.rows.specs.Trace.{cube_after}
 use Rattle.rows.specs.Reason.{AllThere, is_together}
 use Rattle.rows.specs.Ascent.{is_ascent_refuted}
-
--- what is known by a list of cuts, of which the first `upto` count
-abbrev pub known_from : ProblemParts → ℕ → Option ℕ → List CutParts → KnownParts
-known_from problem upto bound cuts = record { problem = problem; cuts = cuts; upto = upto; bound = bound }
 
 -- by what either knows, the same traces lead from a cube to the same cubes, the same cubes are quiet, the same ascents are refuted, and the same reasons are there and refuted
 pub record KnowAlike (a b : KnownParts) : Type 0 where

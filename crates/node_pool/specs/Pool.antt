@@ -4,24 +4,11 @@ use Rattle.std.specs.List.{All}
 use Rattle.rows.specs.Parts.{ProblemParts}
 use Rattle.search_core.specs.declared.limits.TheConstants.{WORKERS}
 use Rattle.search_core.specs.declared.entry.Entry.{Entry}
-use Rattle.search_core.specs.declared.entry.Entry.TheVariants.{Take, Branch, Prune, Offer, Study, Publish, Accept, Park, Reopen}
 use Rattle.search_core.specs.State.{SearchState}
-use Rattle.search_core.specs.Step.{Step}
+use Rattle.search_core.specs.Step.{NamesWorkerBelow, Step}
 use Rattle.search_core.specs.History.{Steps, IsReached, IsAllOpen, HasNoReopen}
 use Rattle.search_core.specs.Diligent.{IsDiligent}
 use Rattle.node_pool.specs.Parts.{PoolParts}
-
--- the worker that an entry names has a number below n
-abbrev pub NamesWorkerBelow : ℕ → Entry → Type 0
-NamesWorkerBelow n (Take worker node cuts bound) = worker < n
-NamesWorkerBelow n (Branch worker node trace var) = worker < n
-NamesWorkerBelow n (Prune worker node trace reason) = worker < n
-NamesWorkerBelow n (Offer worker node trace) = worker < n
-NamesWorkerBelow n (Study worker node) = worker < n
-NamesWorkerBelow n (Publish worker node cut) = worker < n
-NamesWorkerBelow n (Accept worker node cost) = worker < n
-NamesWorkerBelow n (Park worker node) = worker < n
-NamesWorkerBelow n (Reopen limit) = Unit {0}
 
 -- a team has 1 to 64 workers, and at most as many analysts
 pub record IsTeam (workers analysts : ℕ) : Type 0 where

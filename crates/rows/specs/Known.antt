@@ -48,9 +48,13 @@ pub record IsKnown (known : KnownParts) : Type 0 where
   pub upto : known.upto ≤ length known.cuts
   pub cuts : All (IsCutBelow (variables known)) known.cuts
 
+-- what is known by a list of cuts, of which the first `upto` count, with this bound on the cost or none
+abbrev pub known_from : ProblemParts → ℕ → Option ℕ → List CutParts → KnownParts
+known_from problem upto bound cuts = record { problem = problem; cuts = cuts; upto = upto; bound = bound }
+
 -- what the fields of what is passed as known say
 abbrev pub known_parts : ProblemParts → CutListParts → ℕ → Option ℕ → KnownParts
-known_parts problem cuts upto bound = record { problem = problem; cuts = cuts.cuts; upto = upto; bound = bound }
+known_parts problem cuts upto bound = known_from problem upto bound cuts.cuts
 
 -- the same of the record that is passed as known
 abbrev pub parts_of : Known → KnownParts

@@ -4,6 +4,7 @@ use Rattle.std.specs.Ordering.{nat_cmp}
 use Rattle.std.specs.FinMap.{FinMap, empty, insert, entries, from_sorted}
 use Rattle.rows.specs.Parts.{CutParts, ProblemParts, KnownParts}
 use Rattle.rows.specs.Cube.{whole}
+use Rattle.rows.specs.Known.{known_from}
 use Rattle.incumbent.specs.declared.best.Best.{Best}
 use Rattle.search_core.specs.Node.{Node, Open, node_cube}
 
@@ -21,7 +22,7 @@ start_of limit = record { nodes = insert empty 0 (Open whole); cuts = []; best =
 
 -- what is known at a node that was taken when there were this many cuts and this bound on the cost
 abbrev pub known_at : ProblemParts → SearchState → ℕ → Option ℕ → KnownParts
-known_at problem state cuts bound = record { problem = problem; cuts = state.cuts; upto = cuts; bound = bound }
+known_at problem state cuts bound = known_from problem cuts bound state.cuts
 
 -- the same nodes with the same cubes, all open
 abbrev pub all_open : FinMap nat_cmp Node → FinMap nat_cmp Node

@@ -153,17 +153,21 @@ Case problem old (Accept worker node cost) new = Accepts problem old worker node
 Case problem old (Park worker node) new = Parks old worker node new
 Case problem old (Reopen limit) new = Reopens old limit new
 
+-- the worker that an entry names has a number below n
+abbrev pub NamesWorkerBelow : ℕ → Entry → Type 0
+NamesWorkerBelow n (Take worker node cuts bound) = worker < n
+NamesWorkerBelow n (Branch worker node trace var) = worker < n
+NamesWorkerBelow n (Prune worker node trace reason) = worker < n
+NamesWorkerBelow n (Offer worker node trace) = worker < n
+NamesWorkerBelow n (Study worker node) = worker < n
+NamesWorkerBelow n (Publish worker node cut) = worker < n
+NamesWorkerBelow n (Accept worker node cost) = worker < n
+NamesWorkerBelow n (Park worker node) = worker < n
+NamesWorkerBelow n (Reopen limit) = Unit {0}
+
 -- the worker that an entry names has a number below 64
 abbrev pub HasWorker : Entry → Type 0
-HasWorker (Take worker node cuts bound) = worker < WORKERS
-HasWorker (Branch worker node trace var) = worker < WORKERS
-HasWorker (Prune worker node trace reason) = worker < WORKERS
-HasWorker (Offer worker node trace) = worker < WORKERS
-HasWorker (Study worker node) = worker < WORKERS
-HasWorker (Publish worker node cut) = worker < WORKERS
-HasWorker (Accept worker node cost) = worker < WORKERS
-HasWorker (Park worker node) = worker < WORKERS
-HasWorker (Reopen limit) = Unit {0}
+HasWorker entry = NamesWorkerBelow WORKERS entry
 
 -- one step of a search: from the old state the entry leads to the new one
 pub record Step (problem : ProblemParts) (old : SearchState) (entry : Entry) (new : SearchState) : Type 0 where

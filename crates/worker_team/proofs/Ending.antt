@@ -16,8 +16,9 @@ use Rattle.search_core.specs.History.{Steps, IsAtRest, HasNoReopen, is_reopen}
 use Rattle.search_core.specs.Diligent.{IsDiligent}
 use Rattle.search_core.proofs.Counts.{limit_stays}
 use Rattle.search_core.proofs.AnswerLaws.{limit_is_enough, no_answer}
+use Rattle.search_core.specs.Step.{NamesWorkerBelow}
 use Rattle.node_pool.specs.Parts.{PoolParts}
-use Rattle.node_pool.specs.Pool.{IsNewPool, SamePool, NamesWorkerBelow}
+use Rattle.node_pool.specs.Pool.{IsNewPool, SamePool}
 use Rattle.node_pool.proofs.Outcomes.{state_is_kept}
 use Rattle.worker_team.specs.declared.solved.Solved.{Solved}
 use Rattle.worker_team.specs.Solved.{IsSolved}

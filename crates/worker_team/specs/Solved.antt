@@ -3,10 +3,10 @@ use Rattle.std.specs.Prelude.{◌≡◌, ℕ, length, Some}
 use Rattle.std.specs.List.{All}
 use Rattle.rows.specs.Parts.{ProblemParts}
 use Rattle.search_core.specs.State.{SearchState, start_of}
+use Rattle.search_core.specs.Step.{NamesWorkerBelow}
 use Rattle.search_core.specs.History.{Reaches, IsAtRest, HasNoReopen}
 use Rattle.search_core.specs.Diligent.{IsDiligent}
 use Rattle.search_core.specs.Answers.{answer_of}
-use Rattle.node_pool.specs.Pool.{NamesWorkerBelow}
 use Rattle.worker_team.specs.declared.solved.Solved.{Solved}
 
 -- a search for a problem under a limit of branchings came to its end, with this many workers and analysts: its history is legal, diligent, changes no limit and names these workers alone; it leads to a state at rest; and the answer, the best, and the two numbers are that state's
