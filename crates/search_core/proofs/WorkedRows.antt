@@ -73,7 +73,7 @@ found_in P (e ∷ es) i node all at = elim (cases_eq i e.0) [
 ]
 
 -- what holds of each of a list holds of each node
-each_listed : (P : ℕ → Node → Type 0) (es : Listed) → is_sorted nat_cmp es ≡ true → AllByRecursion (λ e. P e.0 e.1) es → EachNode P (nodes_of es)
+pub each_listed : (P : ℕ → Node → Type 0) (es : Listed) → is_sorted nat_cmp es ≡ true → AllByRecursion (λ e. P e.0 e.1) es → EachNode P (nodes_of es)
 each_listed P es sorted all i node at = found_in P es i node all (sym (get-map es sorted i) ∙ at)
 
 -- a state under the limit 4 with these live nodes and no cut
@@ -125,10 +125,10 @@ abbrev pub best_p : Option Best
 best_p = Some (record { cost = 3; architecture = candidate_of lib_p second })
 
 -- the live nodes from the start on
-abbrev at_start : Listed
+abbrev pub at_start : Listed
 at_start = (0, Open whole) ∷ []
 
-abbrev at_1 : Listed
+abbrev pub at_1 : Listed
 at_1 = (0, Held whole 0 0 None) ∷ []
 
 abbrev at_2 : Listed
@@ -153,14 +153,14 @@ abbrev pub at_end : Listed
 at_end = []
 
 -- the start
-start_listed : at at_start None 0 ≡ start_of 4
+pub start_listed : at at_start None 0 ≡ start_of 4
 start_listed =
     let start : Node = Open whole in
     ap (λ n. record { nodes = n; cuts = []; best = None; branchings = 0; limit = 4 })
     (push_map at_end refl 0 start (each_listed (λ i node. i < 0) at_end refl tt) ∙ ap (λ m. insert m 0 start) (empty_of_len (nodes_of at_end) (count_listed at_end refl)))
 
 -- entry by entry
-take_root : Step problem_p (at at_start None 0) (Take 0 0 0 None) (at at_1 None 0)
+pub take_root : Step problem_p (at at_start None 0) (Take 0 0 0 None) (at at_1 None 0)
 take_root = record {
   worker = lit< tt;
   fits = record {
@@ -412,7 +412,7 @@ branch-diligent traced =
     let Q : CubeParts → Type 0 = λ c. is_ascent_refuted (known_at problem_p (at at_1 None 0) traced.cuts traced.bound) c ≡ false in
     record { quiet = subst P stays here.0; ascent = subst Q stays here.1 }
 
-root-last : TakesLast 1 (at at_start None 0) 0 0
+pub root-last : TakesLast 1 (at at_start None 0) 0 0
 root-last = record {
   last = each_listed (λ j node. 0 < j → is_open node ≡ false) at_start refl ((λ past. absurd (omega (arith, past))), tt);
   analyst = λ few. each_listed (λ j node. is_pending node ≡ false) at_start refl (refl, tt);
@@ -436,7 +436,7 @@ first-last = record {
   analyst = λ few. each_listed (λ j node. is_pending node ≡ false) at_6 refl (refl, tt);
 }
 
-diligent_p : IsDiligent problem_p 1 (at at_start None 0) history_p
+pub diligent_p : IsDiligent problem_p 1 (at at_start None 0) history_p
 diligent_p = (
   root-last,
   (
