@@ -250,6 +250,14 @@ fn are_parked(live: &[Live]) -> bool
     live.iter().all(|node| node.state.is_parked())
 }
 
+// The place that lies this many places before the last of so many.
+fn from_end(len: usize, back: usize) -> usize
+    requires { back < len }
+    ensures { result ≡ len - 1 - back }
+{
+    len - back - 1
+}
+
 // The number of the last live node of a kind.
 fn last_live(live: &[Live], sought: Sought) -> Option<u32>
     ensures some { IfSome result (IsLastLive (sought_by sought) live.now) }
@@ -258,7 +266,7 @@ fn last_live(live: &[Live], sought: Sought) -> Option<u32>
 {
     let len = live.len();
     for back in 0..len {
-        let node = &live[len - 1 - back];
+        let node = &live[from_end(len, back)];
         if sought.fits(&node.state) {
             return Some(node.number);
         }
