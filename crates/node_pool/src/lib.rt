@@ -3,11 +3,11 @@
 //! It has the state of the search, and the history that leads to it from a base. Its type keeps
 //! (`IsPool`) that the history is a list of steps, each the one that the rules of the search ask
 //! for, that no entry changes the limit, that each names a worker of the team, and how long it is
-//! at most. `branch`, `prune`, `offer`, `publish`, `accept` and `park` append the one entry of their
-//! name, and `take` one where it hands out work; none of them takes memory. What a worker is handed is a ticket, a plain
-//! value: `fits`, `fits_study` and `held` say in a later turn what has become of it. A pool may lie
-//! behind a gate: what it is about is its problem, its base and its team, and its count is the
-//! length of its history.
+//! at most. `branch`, `prune`, `offer`, `publish`, `accept` and `park` append the one entry of
+//! their name, and `take` one where it hands out work; none of them takes memory. What a worker is
+//! handed is a ticket, a plain value: `fits`, `fits_study` and `held` say in a later turn what has
+//! become of it. A pool may lie behind a gate: what it is about is its problem, its base and its
+//! team, and its count is the length of its history.
 //!
 //! A call costs what its step costs in `search_core`, and no call walks the history. `fits` and
 //! `copy_cuts` walk the cuts. `take` and `held` look at the live nodes, from the last one back,

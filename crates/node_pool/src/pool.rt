@@ -108,8 +108,8 @@ impl Pool {
         }
     }
 
-    /// Makes room for at least one more entry. All else stays. The only error is want of memory, and
-    /// then all stays.
+    /// Makes room for at least one more entry. All else stays. The only error is want of memory,
+    /// and then all stays.
     pub fn reserve(&mut self) -> Result<(), Memory>
         ensures stays { self.new ≡ record self.old { spare = self.new.spare } }
         ensures ok { OnOk result (1 ≤ self.new.spare) }
