@@ -18,7 +18,7 @@ use Rattle.node_pool.specs.declared.ticket.SearchTicket.{SearchTicket}
 use Rattle.node_pool.specs.declared.ticket.Work.{Work}
 use Rattle.node_pool.specs.declared.ticket.Work.TheVariants.{Node as ANode, Candidate as ACandidate, Nothing, Done}
 use Rattle.node_pool.specs.Parts.{PoolParts}
-use Rattle.node_pool.specs.Pool.{IsPool, SamePool, Appends}
+use Rattle.node_pool.specs.Pool.{IsPool, Appends}
 use Rattle.node_pool.specs.Taking.{HandsOut}
 use Rattle.node_pool.specs.declared.ticket.StudyTicket.{StudyTicket}
 use Rattle.node_pool.specs.declared.ticket.AtLimit.{AtLimit}
@@ -28,7 +28,7 @@ use Rattle.branch_worker.specs.declared.outcome.Outcome.{Outcome}
 use Rattle.branch_worker.specs.Outcome.{IsOutcome}
 use Rattle.node_pool.proofs.Counting.{one_more}
 use Rattle.node_pool.proofs.Outcomes.{state_is_kept}
-use Rattle.worker_team.specs.Inner.Rounds.{GoesOn, IsRound, IsInHand, AllIdle, IsShort, IsVerdict}
+use Rattle.worker_team.specs.Inner.Rounds.{GoesOn, IsRound, IsInHand, AllIdle, IsVerdict, IsWithinLimit}
 use Rattle.worker_team.proofs.Resting.{nothing_is_left}
 
 no_more : (n : ℕ) → n + 0 ≤ n
@@ -36,7 +36,7 @@ no_more n = omega arith
 
 -- a pool that stays
 pub stays : (pool : PoolParts) → GoesOn 0 pool pool
-stays pool = record { same = record { problem = refl; base = refl; workers = refl; analysts = refl }; more = no_more (length pool.history) }
+stays pool = record { same = record { problem = refl; base = refl; workers = refl; analysts = refl }; short = refl; more = no_more (length pool.history) }
 
 -- a pool that is the same
 pub stayed : (old new : PoolParts) → new ≡ old → GoesOn 0 old new
@@ -49,6 +49,7 @@ one old new e = omega arith
 pub by_entry : (old new : PoolParts) (entry : Entry) → Appends old entry new → GoesOn 1 old new
 by_entry old new entry appends = record {
   same = record { problem = appends.same.problem; base = appends.same.base; workers = appends.same.workers; analysts = appends.same.analysts };
+  short = appends.short;
   more = one (length old.history) (length new.history) (one_more old new entry appends);
 }
 
@@ -57,7 +58,7 @@ pub with_room : (least spare : ℕ) (old mid new : PoolParts) → mid ≡ record
 with_room least spare old mid new is on =
     let P : PoolParts → Type 0 = λ m. GoesOn least m new in
     let h = subst P is on in
-    record { same = record { problem = h.same.problem; base = h.same.base; workers = h.same.workers; analysts = h.same.analysts }; more = h.more }
+    record { same = record { problem = h.same.problem; base = h.same.base; workers = h.same.workers; analysts = h.same.analysts }; short = h.short; more = h.more }
 
 -- what a ticket says of a pool that got room is what it said before
 module _ (old mid : PoolParts) (is : mid ≡ record old { spare = mid.spare }) where
@@ -102,11 +103,8 @@ idle_next pool k before here w short = elim (cases_lt w k) [
 pub worked_on : (old new : PoolParts) (worked : Bool) → IsRound old worked new → worked ≡ true → GoesOn 1 old new
 worked_on old new worked did is = subst (λ w. IsRound old w new) is did
 
-pub came_to_rest : (old new : PoolParts) (worked : Bool) → IsRound old worked new → worked ≡ false → SamePool old new × IsAtRest new.state
-came_to_rest old new worked did is = let told : GoesOn 0 old new × IsAtRest new.state = subst (λ w. IsRound old w new) is did in (told.0.same, told.1)
-
-pub same_again : (old mid new : PoolParts) → SamePool old mid → SamePool mid new → SamePool old new
-same_again old mid new a b = record { problem = b.problem ∙ a.problem; base = b.base ∙ a.base; workers = b.workers ∙ a.workers; analysts = b.analysts ∙ a.analysts }
+pub came_to_rest : (old new : PoolParts) (worked : Bool) → IsRound old worked new → worked ≡ false → GoesOn 0 old new × IsAtRest new.state
+came_to_rest old new worked did is = subst (λ w. IsRound old w new) is did
 
 sum : (a b c l m : ℕ) → a + l ≤ b → b + m ≤ c → a + (l + m) ≤ c
 sum a b c l m e f = omega arith
@@ -120,6 +118,7 @@ went_on l m old mid new first then_on = record {
     workers = then_on.same.workers ∙ first.same.workers;
     analysts = then_on.same.analysts ∙ first.same.analysts;
   };
+  short = then_on.short ∙ first.short;
   more = sum (length old.history) (length mid.history) (length new.history) l m first.more then_on.more;
 }
 
@@ -135,20 +134,17 @@ work_in_hand pool worker (ACandidate ticket) has = has.studied
 work_in_hand pool worker Nothing has = absurd has
 work_in_hand pool worker Done has = absurd has
 
+less_on : (n m : ℕ) → n + 1 ≤ m → n + 0 ≤ m
+less_on n m e = omega arith
+
+-- a pool that went on by an entry went on
+pub at_least_none : (old new : PoolParts) → GoesOn 1 old new → GoesOn 0 old new
+at_least_none old new on = record { same = on.same; short = on.short; more = less_on (length old.history) (length new.history) on.more }
+
 -- what a pool hands out where nobody has work in hand
 pub handed_on : (old new : PoolParts) (worker : ℕ) (work : Work) → HandsOut old worker work new → GoesOn 0 old new
-handed_on old new worker (ANode ticket) hands = less old new (by_entry old new _ hands.appends) where
-  weaker : (n m : ℕ) → n + 1 ≤ m → n + 0 ≤ m
-  weaker n m e = omega arith
-
-  less : (p q : PoolParts) → GoesOn 1 p q → GoesOn 0 p q
-  less p q on = record { same = on.same; more = weaker (length p.history) (length q.history) on.more }
-handed_on old new worker (ACandidate ticket) hands = less old new (by_entry old new _ hands.appends) where
-  weaker : (n m : ℕ) → n + 1 ≤ m → n + 0 ≤ m
-  weaker n m e = omega arith
-
-  less : (p q : PoolParts) → GoesOn 1 p q → GoesOn 0 p q
-  less p q on = record { same = on.same; more = weaker (length p.history) (length q.history) on.more }
+handed_on old new worker (ANode ticket) hands = at_least_none old new (by_entry old new _ hands.appends)
+handed_on old new worker (ACandidate ticket) hands = at_least_none old new (by_entry old new _ hands.appends)
 handed_on old new worker Nothing hands = stayed old new hands.0
 handed_on old new worker Done hands = stayed old new hands.0
 
@@ -160,7 +156,7 @@ handed_in_hand old new worker Nothing is idle hands =
 handed_in_hand old new worker Done is idle hands = let P : PoolParts → Type 0 = λ p. IsAtRest p.state in subst P (sym hands.0) hands.1
 
 -- how long a history can be
-pub history_is_bounded : (pool : PoolParts) → IsPool pool → IsLibrary pool.problem.library → IsProblem pool.problem → IsShort pool
+pub history_is_bounded : (pool : PoolParts) → IsPool pool → IsLibrary pool.problem.library → IsProblem pool.problem → IsWithinLimit pool
 history_is_bounded pool is right problem =
     few (length pool.history) pool.state.branchings pool.state.limit pool.base.limit is.few (state_is_kept pool is right problem).holds.within_limit.at_most
     (limit_stays pool.problem pool.history pool.base pool.state (recursion_from_All (λ (entry : Entry). is_reopen entry ≡ false) pool.history is.no_reopen) is.steps) where
@@ -171,7 +167,7 @@ history_is_bounded pool is right problem =
 abbrev pub room_left : PoolParts → ℕ
 room_left pool = (4 * (2 * pool.base.limit + 1) + 1) - length pool.history
 
-pub room_falls : (old new : PoolParts) → IsShort old → GoesOn 1 old new → room_left new < room_left old
+pub room_falls : (old new : PoolParts) → IsWithinLimit old → GoesOn 1 old new → room_left new < room_left old
 room_falls old new short on = falls (length old.history) (length new.history) old.base.limit new.base.limit short on.more (ap (λ (s : SearchState). s.limit) on.same.base) where
   falls : (n m l k : ℕ) → n ≤ 4 * (2 * l + 1) → n + 1 ≤ m → k ≡ l → (4 * (2 * k + 1) + 1) - m < (4 * (2 * l + 1) + 1) - n
   falls n m l k e f g = omega (arith, e, f, g)

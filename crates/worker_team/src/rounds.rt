@@ -9,7 +9,7 @@ ghost use Rattle.branch_worker.specs.Outcome.{IsOutcome};
 ghost use Rattle.node_pool.specs.Pool.{IsPool, SamePool};
 ghost use Rattle.node_pool.specs.Tickets.{IsHeldFor, IsStudiedFor, known_for};
 ghost use Rattle.worker_team.specs.Inner.Rounds.{GoesOn, IsRound, IsInHand, AllIdle};
-ghost use Rattle.worker_team.specs.Inner.Rounds.{IsShort, IsVerdict};
+ghost use Rattle.worker_team.specs.Inner.Rounds.{IsVerdict, IsWithinLimit};
 
 use analyst::{Verdict, study};
 use arch_model::{Memory, VarId};
@@ -30,9 +30,9 @@ fn problem_in(pool: &Pool) -> &Problem
     problem
 }
 
-// Reads what keeps a pool's history short.
-fn is_short(pool: &Pool)
-    ensures { IsShort pool.now }
+// Nothing but its clause: a pool's history is never longer than its limit lets it be.
+fn is_within_limit(pool: &Pool)
+    ensures { IsWithinLimit pool.now }
 {
     let _problem = problem_in(pool);
 }
@@ -185,11 +185,12 @@ fn round(alloc: Global, pool: &mut Pool) -> Result<bool, Memory>
 
 // Rounds until the pool's state is at rest.
 fn until_rest(alloc: Global, pool: &mut Pool) -> Result<(), Memory>
-    ensures same { OnOk result (SamePool pool.old pool.new) }
+    ensures on { OnOk result (GoesOn 0 pool.old pool.new) }
     ensures rest { OnOk result (IsAtRest pool.new.state) }
 {
     loop {
-        is_short(pool);
+        // so there is room for so many more rounds with work at most
+        is_within_limit(pool);
         let worked = round(alloc, pool)?;
         if !worked {
             return Ok(());
@@ -198,11 +199,12 @@ fn until_rest(alloc: Global, pool: &mut Pool) -> Result<(), Memory>
 }
 
 /// Goes on alone, as the worker of each node that is held or under study and as worker 0 of all
-/// others, until the pool's state is at rest. The only error is want of memory, and then the pool
-/// is short.
+/// others, until the pool's state is at rest. The only error is want of memory, and then the pool's
+/// flag says so; else the flag stays.
 pub(crate) fn finish_alone(alloc: Global, pool: &mut Pool) -> Result<(), Memory>
     ensures same { OnOk result (SamePool pool.old pool.new) }
     ensures rest { OnOk result (IsAtRest pool.new.state) }
+    ensures kept { OnOk result (pool.new.short ≡ pool.old.short) }
     ensures short { OnErr result (pool.new.short ≡ true) }
 {
     match until_rest(alloc, pool) {

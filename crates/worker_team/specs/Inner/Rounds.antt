@@ -15,9 +15,10 @@ use Rattle.node_pool.specs.Tickets.{IsHeldFor, IsStudiedFor}
 use Rattle.node_pool.specs.Holding.{IsIdle}
 use Rattle.worker_team.specs.declared.solved.Solved.{Solved}
 
--- a pool went on by at least so many entries, and is about the same
+-- a pool's history became longer by at least so many entries; its problem, its base, its team and whether it is short of memory are the same
 pub record GoesOn (least : ℕ) (old new : PoolParts) : Type 0 where
   pub same : SamePool old new
+  pub short : new.short ≡ old.short
   pub more : length old.history + least ≤ length new.history
 
 -- what a round did: where there was work, the pool went on by an entry at least; where there was none, its state is at rest
@@ -36,9 +37,9 @@ IsInHand pool Done = IsAtRest pool.state
 abbrev pub AllIdle : PoolParts → Type 0
 AllIdle pool = (worker : ℕ) → worker < pool.workers → IsIdle pool worker
 
--- a pool's history is at most so long as its limit lets it be
-abbrev pub IsShort : PoolParts → Type 0
-IsShort pool = length pool.history ≤ 4 * (2 * pool.base.limit + 1)
+-- a pool's history is at most so long as its limit of branchings lets it be
+abbrev pub IsWithinLimit : PoolParts → Type 0
+IsWithinLimit pool = length pool.history ≤ 4 * (2 * pool.base.limit + 1)
 
 -- what is left of a pool at the end of its search
 pub record IsLeftOf (pool : PoolParts) (solved : Solved) : Type 0 where

@@ -1,5 +1,5 @@
 use Rattle.worker_team.proofs.RoundLaws.{history_is_bounded}
-use Rattle.worker_team.proofs.rounds.is_short.Goals as goal
+use Rattle.worker_team.proofs.rounds.is_within_limit.Goals as goal
 
 pub returns : goal.returns
 returns c =
