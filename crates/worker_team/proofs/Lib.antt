@@ -1,3 +1,4 @@
 pub mod Resting
 pub mod RoundLaws
 pub mod Ending
+pub mod WorkedRows
