@@ -7,7 +7,9 @@ mod problems;
 mod replaying;
 
 use crate::solve_alone;
-use crate::tests::problems::{chains, one_of_two, side_way, twelve_types, two_buses};
+use crate::tests::problems::{
+    chains, one_alone, one_of_two, side_way, twelve_sinks, twelve_types, two_buses,
+};
 use crate::tests::replaying::{Seen, replayed};
 use arch_model::Memory;
 use rows::Problem;
@@ -15,13 +17,13 @@ use search_core::Answer;
 use std::process::Abort;
 use std::test::Fail;
 
-// The answer of a search under a limit, and how many branchings there were. Each entry of its
-// history is a step from the start on, and leads to what the search says of itself.
+// The answer of a search under a limit, and how many branchings and cuts there were. Each entry of
+// its history is a step from the start on, and leads to what the search says of itself.
 fn solved(
     rt: &(impl Abort + AllocGlobal),
     problem: &Problem,
     limit: u32,
-) -> Result<(Answer, u32), Memory>
+) -> Result<(Answer, u32, u32), Memory>
     requires { limit ≤ limits.BRANCHINGS }
 {
     let solved = solve_alone(rt.alloc(), problem, limit)?;
@@ -33,7 +35,7 @@ fn solved(
     };
     let seen = replayed(rt, problem, limit, solved.history.entries())?;
     assert_eq!(rt; seen, told);
-    Ok((solved.answer, solved.branchings))
+    Ok((solved.answer, solved.branchings, solved.cuts))
 }
 
 // Each node that is open after the first candidate is dropped by the ascent.
@@ -41,14 +43,14 @@ fn solved(
 fn twelve_types_take_twelve_branchings(rt: HostRuntime) -> Result<(), Fail> {
     let problem = twelve_types(&rt)?;
     let found = solved(&rt, &problem, 200)?;
-    assert_eq!(rt; found, (Answer::Optimal { cost: 120 }, 12));
+    assert_eq!(rt; found, (Answer::Optimal { cost: 120 }, 12, 0));
     Ok(())
 }
 
 // The answer for generators, buses and a load, whose weight is bounded.
 fn answer_within(rt: &(impl Abort + AllocGlobal), bound: u64) -> Result<Answer, Memory> {
     let problem = chains(rt, bound)?;
-    let (answer, _) = solved(rt, &problem, 2048)?;
+    let (answer, _, _) = solved(rt, &problem, 2048)?;
     Ok(answer)
 }
 
@@ -77,7 +79,7 @@ fn bounds_decide_what_is_cheapest(rt: HostRuntime) -> Result<(), Fail> {
 #[test]
 fn less_can_weigh_less(rt: HostRuntime) -> Result<(), Fail> {
     let problem = side_way(&rt)?;
-    let (answer, _) = solved(&rt, &problem, 512)?;
+    let (answer, _, _) = solved(&rt, &problem, 512)?;
     assert_eq!(rt; answer, Answer::Optimal { cost: 10 });
     Ok(())
 }
@@ -86,9 +88,30 @@ fn less_can_weigh_less(rt: HostRuntime) -> Result<(), Fail> {
 fn no_branching_is_allowed(rt: HostRuntime) -> Result<(), Fail> {
     let problem = one_of_two(&rt)?;
     let none = solved(&rt, &problem, 0)?;
-    assert_eq!(rt; none, (Answer::NodeLimit { incumbent: None }, 0));
-    let (enough, _) = solved(&rt, &problem, 4)?;
-    assert_eq!(rt; enough, Answer::Optimal { cost: 3 });
+    assert_eq!(rt; none, (Answer::NodeLimit { incumbent: None }, 0, 0));
+    Ok(())
+}
+
+// A node that needs no split is searched though the limit is spent.
+#[test]
+fn a_spent_limit_parks_no_more_than_it_must(rt: HostRuntime) -> Result<(), Fail> {
+    let forced = solved(&rt, &one_alone(&rt)?, 0)?;
+    assert_eq!(rt; forced, (Answer::Optimal { cost: 7 }, 0, 0));
+    let one_split = solved(&rt, &one_of_two(&rt)?, 1)?;
+    assert_eq!(rt; one_split, (Answer::Optimal { cost: 3 }, 1, 0));
+    Ok(())
+}
+
+// Each of twelve sinks needs both sources. For a sink and a source, the architecture that lacks this
+// one edge costs 43, so some cut rules it out: one that asks for this edge alone, since all else is
+// there. So there are 24 cuts at least. Each was learned from a candidate of its own, in a node of
+// its own, which takes 24 branchings at least.
+#[test]
+fn many_sinks_take_many_cuts(rt: HostRuntime) -> Result<(), Fail> {
+    let (answer, branchings, cuts) = solved(&rt, &twelve_sinks(&rt)?, 100_000)?;
+    assert_eq!(rt; answer, Answer::Optimal { cost: 44 });
+    assert!(rt; branchings >= 24);
+    assert!(rt; cuts >= 24);
     Ok(())
 }
 
@@ -108,10 +131,10 @@ fn a_limit_is_met_with_and_without_an_incumbent(rt: HostRuntime) -> Result<(), F
         ),
     ];
     for (limit, answer) in table {
-        let found = solved(&rt, &problem, limit)?;
-        assert_eq!(rt; found, (answer, limit));
+        let (found, branchings, _) = solved(&rt, &problem, limit)?;
+        assert_eq!(rt; (found, branchings), (answer, limit));
     }
-    let (enough, _) = solved(&rt, &problem, 100)?;
+    let (enough, _, _) = solved(&rt, &problem, 100)?;
     assert_eq!(rt; enough, Answer::Optimal { cost: 40 });
     Ok(())
 }

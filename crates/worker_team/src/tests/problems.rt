@@ -72,6 +72,12 @@ fn fed(of: u32, from: u32) -> Pattern {
     }
 }
 
+// A component of cost 7 that must be present.
+pub(crate) fn one_alone(rt: &(impl Abort + AllocGlobal)) -> Result<Problem, Memory> {
+    let types = [row("x", Role::Middle, 1, 7, 0)];
+    problem(rt, &types, &[], &[count(0, 1)], &[])
+}
+
 // Two sources of cost 3, of which one at least is present.
 pub(crate) fn one_of_two(rt: &(impl Abort + AllocGlobal)) -> Result<Problem, Memory> {
     let types = [row("p", Role::Source, 2, 3, 0)];
@@ -99,6 +105,23 @@ pub(crate) fn twelve_types(rt: &(impl Abort + AllocGlobal)) -> Result<Problem, M
         patterns.push(count(of, 1))?;
     }
     problem(rt, &types, &[], &patterns, &[])
+}
+
+// Two sources of cost 10 that fail once in a thousand times, and twelve sinks, each of which may be
+// cut off from both once in a million times. An edge costs 1.
+pub(crate) fn twelve_sinks(rt: &(impl Abort + AllocGlobal)) -> Result<Problem, Memory> {
+    let types = [
+        row("s", Role::Source, 2, 10, 1000),
+        row("t", Role::Sink, 12, 0, 0),
+    ];
+    let mut requirements = Vec::new(rt.alloc());
+    for sink in 2..14 {
+        requirements.push(Requirement {
+            sink: CompId(sink),
+            bound: 1_000_000_000_000,
+        })?;
+    }
+    problem(rt, &types, &[link(0, 1, 1)], &[], &requirements)
 }
 
 // Generators, buses and a load, whose weight is bounded, in units of 10^-18.
