@@ -467,6 +467,10 @@ diligent_p = (
   ),
 )
 
+-- so it is from the start of a search on
+pub diligent_from_start : IsDiligent problem_p 1 (start_of 4) history_p
+diligent_from_start = let P : SearchState → Type 0 = λ s. IsDiligent problem_p 1 s history_p in subst P start_listed diligent_p
+
 -- with the side of the first taken in its place, the third entry isn't diligent
 hasty : IsDiligent problem_p 1 (at at_2 None 1) (Take 0 1 0 None ∷ []) → ⊥
 hasty d = absurd (let open_still : true ≡ false = d.0.last 2 (Open not_first) (get-map at_2 refl 2) (lit< tt) in cc)

@@ -19,11 +19,10 @@ use Rattle.search_core.specs.declared.answer.Answer.TheVariants.{Optimal, NodeLi
 use Rattle.search_core.specs.Node.{is_parked}
 use Rattle.search_core.specs.State.{start_of}
 use Rattle.search_core.specs.History.{is_reopen, IsAtRest}
-use Rattle.search_core.specs.Diligent.{IsDiligent}
 use Rattle.search_core.specs.Answers.{answer_of}
 use Rattle.search_core.proofs.Determined.{steps_are_determined}
 use Rattle.search_core.proofs.Places.{entries-map}
-use Rattle.search_core.proofs.WorkedRows.{Listed, at, at_end, problem_p, not_first, second, best_p, cost_alone, history_p, reaches_p, answer_p}
+use Rattle.search_core.proofs.WorkedRows.{Listed, at, at_end, problem_p, not_first, second, best_p, cost_alone, history_p, reaches_p, answer_p, diligent_from_start}
 use Rattle.node_pool.specs.Pool.{NamesWorkerBelow}
 use Rattle.branch_worker.specs.declared.outcome.Outcome.TheVariants.{Branch, Prune, Offer}
 use Rattle.branch_worker.specs.Outcome.{IsOutcome, LeadsToQuiet}
@@ -108,12 +107,11 @@ solved_p = record { answer = Optimal 3; history = record { entries = history_p; 
 end-rests : IsAtRest (at at_end best_p 1)
 end-rests = ap (λ (es : Listed). list_all is_parked (map (λ e. e.1) es)) (entries-map at_end refl)
 
--- as these entries are diligent, which `diligent_p` of `search_core` shows, they are a finished search under the limit 4
-is_solved : IsDiligent problem_p 1 (start_of 4) history_p → IsSolved problem_p 4 1 1 solved_p
-is_solved diligent = record {
+is_solved : IsSolved problem_p 4 1 1 solved_p
+is_solved = record {
   state = at at_end best_p 1;
   legal = reaches_p;
-  diligent = diligent;
+  diligent = diligent_from_start;
   no_reopen = All-from_recursion (λ (entry : Entry). is_reopen entry ≡ false) history_p (refl, (refl, (refl, (refl, (refl, (refl, (refl, (refl, tt))))))));
   workers_below = All-from_recursion (NamesWorkerBelow 1) history_p (lit< tt, (lit< tt, (lit< tt, (lit< tt, (lit< tt, (lit< tt, (lit< tt, (lit< tt, tt))))))));
   rest = end-rests;
