@@ -1,23 +1,33 @@
 -- What a run of `solve` says, from what is said of all runs.
-use Rattle.std.proofs.Common.{◌≡◌, ◌≢◌, ℕ, true, false, Option, Some, List, [], Ok, Err, IsErr, Result, IfSome, refl, sym, ap, subst, ◌∙◌, arith, inl, inr, ◌⊎◌}
+use Rattle.std.proofs.Common.{◌≡◌, ◌≢◌, ℕ, ◌^◌, ◌<◌, ◌≤◌, true, false, Option, Some, None, List, [], ◌∷◌, ◌++◌, append-nil, Ok, Err, IsErr, Result, IfSome, refl, sym, ap, subst, ◌∙◌, arith, inl, inr, ◌⊎◌}
 use Rattle.std.specs.Prelude.{MatchResult, Contains}
 use Rattle.std.proofs.lemmas.List.Elements.{Contains-append_left, Contains-append_right}
 use Rattle.arch_model.specs.Parts.{LibraryParts}
+use Rattle.arch_model.specs.Member.{member_count}
+use Rattle.search_core.specs.declared.entry.Entry.{Entry}
+use Rattle.search_core.specs.declared.answer.Answer.{Answer}
+use Rattle.search_core.specs.declared.answer.Answer.TheVariants.{Optimal, Infeasible, NodeLimit}
+use Rattle.search_core.specs.State.{SearchState}
 use Rattle.outside.specs.Faults.{Rose, Stay}
 use Rattle.outside.specs.Told.{Appends}
 use Rattle.lib_read.specs.LibraryOf.{library_of}
 use Rattle.lib_read.specs.declared.fault.LibFault.{LibFault}
 use Rattle.archex_app.specs.declared.status.Status.{Status}
-use Rattle.archex_app.specs.Status.{Ending, number_of, status_of, done, infeasible, library_refused, words_refused, read_fault, write_fault, no_memory}
+use Rattle.archex_app.specs.Status.{Ending, number_of, status_of, done, infeasible, node_limit, library_refused, words_refused, read_fault, write_fault, no_memory}
 use Rattle.archex_app.specs.Endings.{endings_of, MayEnd}
 use Rattle.archex_app.specs.Due.{Due, ends, unread}
-use Rattle.archex_app.specs.Words.{Asked, solve, refused_words_text, files_of, files_read, files_written}
+use Rattle.archex_app.specs.Words.{Asked, SolveWords, solve, refused_words_text, files_of, files_read, files_written}
 use Rattle.archex_app.specs.Refusal.{refused_library_text}
-use Rattle.archex_app.specs.Answer.{ShowsCheapest, ShowsInfeasible, ShowsRefusal, ShowsAnswer, Prints, PrintsFront}
-use Rattle.archex_app.specs.ComesTo.{ComesTo, SolveComesTo, EndsWith}
+use Rattle.archex_app.specs.Search.{base_problem, IsSearch, search_log}
+use Rattle.archex_app.specs.Report.{search_report, ending_of}
+use Rattle.archex_app.specs.Answer.{ShowsCheapest, ShowsInfeasible, ShowsNodeLimit, ShowsRefusal, ShowsAnswer, Prints, PrintsFront}
+use Rattle.archex_app.specs.Searched.{Answered, ShowsSearch, IsLogFront, LeavesLog}
+use Rattle.archex_app.specs.ComesTo.{ComesTo, SearchComesTo, ALONE, EndsWith}
 use Rattle.archex_app.specs.Complete.{Solves, Completes}
-use Rattle.archex_app.specs.Run.{Seen, names_of, RoseAmong, PrintsFrontOf, EndsAsDue, FailsToRead, FailsAtFile, FailsAtText, FailsToWrite, WantsMemory, Runs}
+use Rattle.archex_app.specs.Run.{Seen, names_of, RoseAmong, PrintsFrontOf, EndsAsDue, FailsToRead, FailsAtFile, FailsAtText, FailsToWrite, HoldsAll, HoldsFronts, WantsMemory, Runs}
 use Rattle.archex_app.proofs.RunLaws.{Ended, apart, not_faults, runs_as}
+use Rattle.archex_app.proofs.SearchAnswers.{optimal_shows, infeasible_shows, limit_shows, some_admissible, none_admissible, limit_spent, cuts_hold}
+use Rattle.archex_app.proofs.StandIn.{logs_of_searches_pass}
 use Rattle.archex_app.proofs.Within.{only_one, same_ending, same_files, same_text, no_read, command_within, words_read, words_written}
 
 -- which of the four ways a status is
@@ -57,75 +67,237 @@ as_memory Comes status before now ended is = elim ended [
   ]
 ]
 
--- what `solve` ends as
-abbrev SolveShows : Ending → List (List ℕ × List ℕ) → List ℕ → List ℕ → Type 0
-SolveShows ending files bytes text =
-    ((ending ≡ done) × ShowsCheapest bytes text × (files ≡ []))
-    ⊎ (((ending ≡ infeasible) × ShowsInfeasible bytes text × (files ≡ [])) ⊎ ((ending ≡ library_refused) × ShowsRefusal bytes text × (files ≡ [])))
+-- what `solve` ends as: a search of the library, or the refusal of bytes that are none
+record Found (ask : SolveWords) (bytes : List ℕ) (ending : Ending) (files : List (List ℕ × List ℕ)) (text : List ℕ) : Type 0 where
+  pub lib : LibraryParts
+  pub read : library_of bytes ≡ Ok lib
+  pub entries : List Entry
+  pub state : SearchState
+  pub answer : Answer
+  pub search : IsSearch lib ask.branchings ALONE entries state answer
+  pub ending_is : ending ≡ ending_of answer
+  pub files_are : files ≡ (ask.log, search_log lib ask.branchings entries state answer) ∷ []
+  pub text_is : text ≡ search_report lib state answer
 
-bytes_show : (bytes : List ℕ) (ending : Ending) (files : List (List ℕ × List ℕ)) (text : List ℕ) (answer : Result LibraryParts LibFault) → library_of bytes ≡ answer
-    → MatchResult answer (λ lib. SolveComesTo lib (ends ending files text)) (λ fault. EndsWith library_refused (refused_library_text fault) (ends ending files text)) → SolveShows ending files bytes text
-bytes_show bytes ending files text (Ok lib) read job = elim job [
-  | inl best ↦ inl (same_ending best.2, record { lib = lib; read = read; arch = best.0; cheapest = best.1; report = same_text best.2 }, same_files best.2)
-  | inr none ↦ inr (inl (same_ending none.1, record { lib = lib; read = read; none = none.0; report = same_text none.1 }, same_files none.1))
-]
-bytes_show bytes ending files text (Err fault) read refused = inr (inr (same_ending refused, record { fault = fault; refused = read; report = same_text refused }, same_files refused))
+abbrev Refused : List ℕ → Ending → List (List ℕ × List ℕ) → List ℕ → Type 0
+Refused bytes ending files text = (ending ≡ library_refused) × ShowsRefusal bytes text × (files ≡ [])
 
-solve_shows : (told : List ℕ → Option (List ℕ)) (name : List ℕ) (ending : Ending) (files : List (List ℕ × List ℕ)) (text : List ℕ) → ComesTo told (Ok (solve name)) (ends ending files text)
-    → (bytes : List ℕ) × IfSome (told name) (λ all. bytes ≡ all) × SolveShows ending files bytes text
-solve_shows told name ending files text comes = elim comes [ inl read ↦ absurd (no_read (sym read)) | inr w ↦ (w.0, w.1, bytes_show w.0 ending files text (library_of w.0) refl w.2) ]
+abbrev SolveShows : SolveWords → List ℕ → Ending → List (List ℕ × List ℕ) → List ℕ → Type 0
+SolveShows ask bytes ending files text = Found ask bytes ending files text ⊎ Refused bytes ending files text
 
-solve_reads : (told : List ℕ → Option (List ℕ)) (name n : List ℕ) → ComesTo told (Ok (solve name)) (unread n) → n ≡ name
-solve_reads told name n comes = only_one name n (words_read told (Ok (solve name)) n comes)
+bytes_show : (ask : SolveWords) (bytes : List ℕ) (ending : Ending) (files : List (List ℕ × List ℕ)) (text : List ℕ) (answer : Result LibraryParts LibFault) → library_of bytes ≡ answer
+    → MatchResult answer (λ lib. SearchComesTo ask.log ask.branchings ALONE lib (ends ending files text)) (λ fault. EndsWith library_refused (refused_library_text fault) (ends ending files text)) → SolveShows ask bytes ending files text
+bytes_show ask bytes ending files text (Ok lib) read job = inl (record {
+  lib = lib;
+  read = read;
+  entries = job.0;
+  state = job.1;
+  answer = job.2;
+  search = job.3;
+  ending_is = same_ending job.4;
+  files_are = same_files job.4;
+  text_is = same_text job.4;
+})
+bytes_show ask bytes ending files text (Err fault) read refused = inr (same_ending refused, record { fault = fault; refused = read; report = same_text refused }, same_files refused)
+
+-- of the bytes that are told, or of some
+abbrev Shown : (List ℕ → Option (List ℕ)) → SolveWords → Ending → List (List ℕ × List ℕ) → List ℕ → Type 0
+Shown told ask ending files text = (bytes : List ℕ) × IfSome (told ask.lib) (λ all. bytes ≡ all) × SolveShows ask bytes ending files text
+
+solve_shows : (told : List ℕ → Option (List ℕ)) (ask : SolveWords) (ending : Ending) (files : List (List ℕ × List ℕ)) (text : List ℕ) → ComesTo told (Ok (solve ask)) (ends ending files text) → Shown told ask ending files text
+solve_shows told ask ending files text comes = elim comes [ inl read ↦ absurd (no_read (sym read)) | inr w ↦ (w.0, w.1, bytes_show ask w.0 ending files text (library_of w.0) refl w.2) ]
+
+solve_reads : (told : List ℕ → Option (List ℕ)) (ask : SolveWords) (n : List ℕ) → ComesTo told (Ok (solve ask)) (unread n) → n ≡ ask.lib
+solve_reads told ask n comes = only_one ask.lib n (words_read told (Ok (solve ask)) n comes)
+
+-- what a search shows, by its answer
+cheapest_if : (ask : SolveWords) (bytes text : List ℕ) (lib : LibraryParts) (entries : List Entry) (state : SearchState) (answer : Answer) → library_of bytes ≡ Ok lib → IsSearch lib ask.branchings ALONE entries state answer → text ≡ search_report lib state answer
+    → number_of (ending_of answer) ≡ 0 → ShowsCheapest bytes text
+cheapest_if ask bytes text lib entries state (Optimal cost) read is text_is zero_is = subst (λ (t : List ℕ). ShowsCheapest bytes t) (sym text_is) (optimal_shows lib ask.branchings ALONE entries state cost bytes read is)
+cheapest_if ask bytes text lib entries state Infeasible read is text_is zero_is = absurd (omega arith)
+cheapest_if ask bytes text lib entries state (NodeLimit incumbent) read is text_is zero_is = absurd (omega arith)
+
+none_if : (ask : SolveWords) (bytes text : List ℕ) (lib : LibraryParts) (entries : List Entry) (state : SearchState) (answer : Answer) → library_of bytes ≡ Ok lib → IsSearch lib ask.branchings ALONE entries state answer → text ≡ search_report lib state answer
+    → number_of (ending_of answer) ≡ 1 → ShowsInfeasible bytes text
+none_if ask bytes text lib entries state (Optimal cost) read is text_is one_is = absurd (omega arith)
+none_if ask bytes text lib entries state Infeasible read is text_is one_is = subst (λ (t : List ℕ). ShowsInfeasible bytes t) (sym text_is) (infeasible_shows lib ask.branchings ALONE entries state bytes read is)
+none_if ask bytes text lib entries state (NodeLimit incumbent) read is text_is one_is = absurd (omega arith)
+
+limit_if : (ask : SolveWords) (bytes text : List ℕ) (lib : LibraryParts) (entries : List Entry) (state : SearchState) (answer : Answer) → library_of bytes ≡ Ok lib → IsSearch lib ask.branchings ALONE entries state answer → text ≡ search_report lib state answer
+    → number_of (ending_of answer) ≡ 2 → ShowsNodeLimit ask.branchings bytes text
+limit_if ask bytes text lib entries state (Optimal cost) read is text_is two_is = absurd (omega arith)
+limit_if ask bytes text lib entries state Infeasible read is text_is two_is = absurd (omega arith)
+limit_if ask bytes text lib entries state (NodeLimit incumbent) read is text_is two_is = subst (λ (t : List ℕ). ShowsNodeLimit ask.branchings bytes t) (sym text_is) (limit_shows lib ask.branchings ALONE entries state incumbent bytes read is)
+
+answer_if : (ask : SolveWords) (bytes text : List ℕ) (lib : LibraryParts) (entries : List Entry) (state : SearchState) (answer : Answer) → library_of bytes ≡ Ok lib → IsSearch lib ask.branchings ALONE entries state answer → text ≡ search_report lib state answer
+    → ShowsAnswer ask.branchings bytes text
+answer_if ask bytes text lib entries state (Optimal cost) read is text_is = inl (cheapest_if ask bytes text lib entries state (Optimal cost) read is text_is refl)
+answer_if ask bytes text lib entries state Infeasible read is text_is = inr (inl (none_if ask bytes text lib entries state Infeasible read is text_is refl))
+answer_if ask bytes text lib entries state (NodeLimit incumbent) read is text_is = inr (inr (inl (limit_if ask bytes text lib entries state (NodeLimit incumbent) read is text_is refl)))
+
+-- one status is that of one ending
+same_number : (status : Status) (n : ℕ) (ending other : Ending) → status ≡ record { 0 = n } → status ≡ status_of ending → ending ≡ other → number_of other ≡ n
+same_number status n ending other is ended same = ap number_of (sym same) ∙ sym (ap (λ (s : Status). s.0) (sym is ∙ ended))
 
 -- the run of words that ask for a command
 pub run_of_words : (command : Result Asked ℕ) (asked : Asked) (status : Status) (before now : Seen) → command ≡ Ok asked → Runs command status before now → Runs (Ok asked) status before now
 run_of_words command asked status before now is run = runs_as (Ok asked) command status before now (sym is) run
 
-pub optimal : (name : List ℕ) (status : Status) (before now : Seen) → Runs (Ok (solve name)) status before now → status ≡ status_of done → Prints ShowsCheapest (before.told name) before.printed now.printed
-optimal name status before now run is =
-    let due : EndsAsDue (ComesTo before.told (Ok (solve name))) status before now = as_due _ status before now 0 run.goes.ended is (λ e. omega arith) (λ e. omega arith) (λ e. omega arith) in
-    let found = solve_shows before.told name due.ending due.files due.text due.due in
+abbrev Solving : SolveWords → Status → Seen → Seen → Type 0
+Solving ask status before now = Runs (Ok (solve ask)) status before now
+
+-- it ended as is due, and so as a search where the status isn't that of a refusal
+abbrev Came : SolveWords → Status → Seen → Seen → Type 0
+Came ask status before now = EndsAsDue (ComesTo before.told (Ok (solve ask))) status before now
+
+not_refused : (n : ℕ) (status : Status) (bytes text : List ℕ) (ending : Ending) (files : List (List ℕ × List ℕ)) → status ≡ record { 0 = n } → status ≡ status_of ending → n ≢ 3 → Refused bytes ending files text → ⊥
+not_refused n status bytes text ending files is ended other refused = apart status n 3 is (ended ∙ ap status_of refused.0) other
+
+pub optimal : (ask : SolveWords) (status : Status) (before now : Seen) → Solving ask status before now → status ≡ status_of done → Prints ShowsCheapest (before.told ask.lib) before.printed now.printed
+optimal ask status before now run is =
+    let due : Came ask status before now = as_due _ status before now 0 run.goes.ended is (λ e. omega arith) (λ e. omega arith) (λ e. omega arith) in
+    let found = solve_shows before.told ask due.ending due.files due.text due.due in
     elim found.2 [
-      | inl w ↦ record { bytes = found.0; read = found.1; text = due.text; shows = w.1; printed = due.printed }
-      | inr rest ↦ elim rest [
-        | inl w ↦ absurd (apart status 0 1 is (due.ended_so ∙ ap status_of w.0) (λ e. omega arith))
-        | inr w ↦ absurd (apart status 0 3 is (due.ended_so ∙ ap status_of w.0) (λ e. omega arith))
-      ]
+      | inl w ↦ record { bytes = found.0; read = found.1; text = due.text; shows = cheapest_if ask found.0 due.text w.lib w.entries w.state w.answer w.read w.search w.text_is (same_number status 0 due.ending (ending_of w.answer) is due.ended_so w.ending_is); printed = due.printed }
+      | inr w ↦ absurd (not_refused 0 status found.0 due.text due.ending due.files is due.ended_so (λ e. omega arith) w)
     ]
 
-pub none_meets : (name : List ℕ) (status : Status) (before now : Seen) → Runs (Ok (solve name)) status before now → status ≡ status_of infeasible → Prints ShowsInfeasible (before.told name) before.printed now.printed
-none_meets name status before now run is =
-    let due : EndsAsDue (ComesTo before.told (Ok (solve name))) status before now = as_due _ status before now 1 run.goes.ended is (λ e. omega arith) (λ e. omega arith) (λ e. omega arith) in
-    let found = solve_shows before.told name due.ending due.files due.text due.due in
+pub none_meets : (ask : SolveWords) (status : Status) (before now : Seen) → Solving ask status before now → status ≡ status_of infeasible → Prints ShowsInfeasible (before.told ask.lib) before.printed now.printed
+none_meets ask status before now run is =
+    let due : Came ask status before now = as_due _ status before now 1 run.goes.ended is (λ e. omega arith) (λ e. omega arith) (λ e. omega arith) in
+    let found = solve_shows before.told ask due.ending due.files due.text due.due in
     elim found.2 [
-      | inl w ↦ absurd (apart status 1 0 is (due.ended_so ∙ ap status_of w.0) (λ e. omega arith))
-      | inr rest ↦ elim rest [
-        | inl w ↦ record { bytes = found.0; read = found.1; text = due.text; shows = w.1; printed = due.printed }
-        | inr w ↦ absurd (apart status 1 3 is (due.ended_so ∙ ap status_of w.0) (λ e. omega arith))
-      ]
+      | inl w ↦ record { bytes = found.0; read = found.1; text = due.text; shows = none_if ask found.0 due.text w.lib w.entries w.state w.answer w.read w.search w.text_is (same_number status 1 due.ending (ending_of w.answer) is due.ended_so w.ending_is); printed = due.printed }
+      | inr w ↦ absurd (not_refused 1 status found.0 due.text due.ending due.files is due.ended_so (λ e. omega arith) w)
     ]
 
-pub refused_library : (name : List ℕ) (status : Status) (before now : Seen) → Runs (Ok (solve name)) status before now → status ≡ status_of library_refused → Prints ShowsRefusal (before.told name) before.printed now.printed
-refused_library name status before now run is =
-    let due : EndsAsDue (ComesTo before.told (Ok (solve name))) status before now = as_due _ status before now 3 run.goes.ended is (λ e. omega arith) (λ e. omega arith) (λ e. omega arith) in
-    let found = solve_shows before.told name due.ending due.files due.text due.due in
+pub limit_met : (ask : SolveWords) (status : Status) (before now : Seen) → Solving ask status before now → status ≡ status_of node_limit → Prints (ShowsNodeLimit ask.branchings) (before.told ask.lib) before.printed now.printed
+limit_met ask status before now run is =
+    let due : Came ask status before now = as_due _ status before now 2 run.goes.ended is (λ e. omega arith) (λ e. omega arith) (λ e. omega arith) in
+    let found = solve_shows before.told ask due.ending due.files due.text due.due in
     elim found.2 [
-      | inl w ↦ absurd (apart status 3 0 is (due.ended_so ∙ ap status_of w.0) (λ e. omega arith))
-      | inr rest ↦ elim rest [
-        | inl w ↦ absurd (apart status 3 1 is (due.ended_so ∙ ap status_of w.0) (λ e. omega arith))
-        | inr w ↦ record { bytes = found.0; read = found.1; text = due.text; shows = w.1; printed = due.printed }
-      ]
+      | inl w ↦ record { bytes = found.0; read = found.1; text = due.text; shows = limit_if ask found.0 due.text w.lib w.entries w.state w.answer w.read w.search w.text_is (same_number status 2 due.ending (ending_of w.answer) is due.ended_so w.ending_is); printed = due.printed }
+      | inr w ↦ absurd (not_refused 2 status found.0 due.text due.ending due.files is due.ended_so (λ e. omega arith) w)
     ]
 
-pub read_rose : (name : List ℕ) (status : Status) (before now : Seen) → Runs (Ok (solve name)) status before now → status ≡ status_of read_fault → Rose (before.reads name) (now.reads name)
-read_rose name status before now run is =
-    let read : FailsToRead (ComesTo before.told (Ok (solve name))) status before now = as_read _ status before now run.goes.ended is in
+no_search : (answer : Answer) → number_of (ending_of answer) ≡ 3 → ⊥
+no_search (Optimal cost) e = omega arith
+no_search Infeasible e = omega arith
+no_search (NodeLimit incumbent) e = omega arith
+
+pub refused_library : (ask : SolveWords) (status : Status) (before now : Seen) → Solving ask status before now → status ≡ status_of library_refused → Prints ShowsRefusal (before.told ask.lib) before.printed now.printed
+refused_library ask status before now run is =
+    let due : Came ask status before now = as_due _ status before now 3 run.goes.ended is (λ e. omega arith) (λ e. omega arith) (λ e. omega arith) in
+    let found = solve_shows before.told ask due.ending due.files due.text due.due in
+    elim found.2 [
+      | inl w ↦ absurd (no_search w.answer (same_number status 3 due.ending (ending_of w.answer) is due.ended_so w.ending_is))
+      | inr w ↦ record { bytes = found.0; read = found.1; text = due.text; shows = w.1; printed = due.printed }
+    ]
+
+-- the history of a search that was printed, and its log
+only_file : (name text : List ℕ) (files : List (List ℕ × List ℕ)) (before now : Seen) → files ≡ (name, text) ∷ [] → HoldsAll files before now → IfSome (now.told name) (λ bytes. bytes ≡ text)
+only_file name text files before now is holds =
+    let P : List (List ℕ × List ℕ) → Type 0 = λ fs. HoldsAll fs before now in
+    let one : HoldsAll ((name, text) ∷ []) before now = subst P is holds in
+    one.whole 0 (name, text) (omega arith)
+
+searched_from : (ask : SolveWords) (status : Status) (before now : Seen) (due : Came ask status before now) (bytes : List ℕ) → IfSome (before.told ask.lib) (λ all. bytes ≡ all) → Found ask bytes due.ending due.files due.text
+    → ShowsSearch ask status (before.told ask.lib) (now.told ask.log) before.printed now.printed
+searched_from ask status before now due bytes told w = record {
+  bytes = bytes;
+  told = told;
+  lib = w.lib;
+  read = w.read;
+  entries = w.entries;
+  state = w.state;
+  answer = w.answer;
+  legal = w.search.legal;
+  diligent = w.search.diligent;
+  no_reopen = w.search.no_reopen;
+  answers = w.search.answers;
+  ended_so = due.ended_so ∙ ap status_of w.ending_is;
+  printed = subst (λ (t : List ℕ). Appends before.printed now.printed t) w.text_is due.printed;
+  log = only_file ask.log (search_log w.lib ask.branchings w.entries w.state w.answer) due.files before now w.files_are due.holds;
+  passes = logs_of_searches_pass (base_problem w.lib) ask.branchings w.entries w.state w.answer w.search.library w.search.problem w.search.legal w.search.no_reopen w.search.answers;
+  cuts_hold = cuts_hold w.lib ask.branchings ALONE w.entries w.state w.answer w.search;
+  at_limit = λ incumbent is. limit_spent w.lib ask.branchings ALONE w.entries w.state incumbent (subst (λ (a : Answer). IsSearch w.lib ask.branchings ALONE w.entries w.state a) is w.search);
+}
+
+searched_as : (n : ℕ) (ask : SolveWords) (status : Status) (before now : Seen) → Solving ask status before now → status ≡ record { 0 = n } → n ≢ 3 → n ≢ 5 → n ≢ 6 → n ≢ 7 → ShowsSearch ask status (before.told ask.lib) (now.told ask.log) before.printed now.printed
+searched_as n ask status before now run is three five six seven =
+    let due : Came ask status before now = as_due _ status before now n run.goes.ended is five six seven in
+    let found = solve_shows before.told ask due.ending due.files due.text due.due in
+    elim found.2 [
+      | inl w ↦ searched_from ask status before now due found.0 found.1 w
+      | inr w ↦ absurd (not_refused n status found.0 due.text due.ending due.files is due.ended_so three w)
+    ]
+
+pub searched : (ask : SolveWords) (status : Status) (before now : Seen) → Solving ask status before now → Answered status → ShowsSearch ask status (before.told ask.lib) (now.told ask.log) before.printed now.printed
+searched ask status before now run answered = elim answered [
+  | inl is ↦ searched_as 0 ask status before now run is (λ e. omega arith) (λ e. omega arith) (λ e. omega arith) (λ e. omega arith)
+  | inr more ↦ elim more [
+    | inl is ↦ searched_as 1 ask status before now run is (λ e. omega arith) (λ e. omega arith) (λ e. omega arith) (λ e. omega arith)
+    | inr is ↦ searched_as 2 ask status before now run is (λ e. omega arith) (λ e. omega arith) (λ e. omega arith) (λ e. omega arith)
+  ]
+]
+
+pub read_rose : (ask : SolveWords) (status : Status) (before now : Seen) → Solving ask status before now → status ≡ status_of read_fault → Rose (before.reads ask.lib) (now.reads ask.lib)
+read_rose ask status before now run is =
+    let read : FailsToRead (ComesTo before.told (Ok (solve ask))) status before now = as_read _ status before now run.goes.ended is in
     let P : List ℕ → Type 0 = λ n. Rose (before.reads n) (now.reads n) in
-    subst P (solve_reads before.told name read.name read.due) read.rose
+    subst P (solve_reads before.told ask read.name read.due) read.rose
 
-shows_answer : (ending : Ending) (files : List (List ℕ × List ℕ)) (bytes text : List ℕ) → SolveShows ending files bytes text → ShowsAnswer bytes text
-shows_answer ending files bytes text shows = elim shows [ inl w ↦ inl w.1 | inr rest ↦ elim rest [ inl w ↦ inr (inl w.1) | inr w ↦ inr (inr w.1) ] ]
+shows_answer : (ask : SolveWords) (bytes : List ℕ) (ending : Ending) (files : List (List ℕ × List ℕ)) (text : List ℕ) → SolveShows ask bytes ending files text → ShowsAnswer ask.branchings bytes text
+shows_answer ask bytes ending files text shows = elim shows [ inl w ↦ answer_if ask bytes text w.lib w.entries w.state w.answer w.read w.search w.text_is | inr w ↦ inr (inr (inr w.1)) ]
+
+-- where nothing was printed, the front of a text without bytes was
+nothing_more : (before now : Option (List ℕ)) → now ≡ before → Appends before now []
+nothing_more before None is = tt
+nothing_more before (Some bytes) is = (bytes, sym is, sym (append-nil bytes))
+
+cut_text : (files : List (List ℕ × List ℕ)) (text : List ℕ) (before now : Seen) → FailsAtFile files before now ⊎ FailsAtText files text before now → PrintsFrontOf text before now
+cut_text files text before now cause = elim cause [ inl w ↦ ([], text, refl, nothing_more before.printed now.printed w.printed) | inr w ↦ w.printed ]
+
+pub cut : (ask : SolveWords) (status : Status) (before now : Seen) → Solving ask status before now → status ≡ status_of write_fault → PrintsFront (ShowsAnswer ask.branchings) (before.told ask.lib) before.printed now.printed
+cut ask status before now run is =
+    let w : FailsToWrite (ComesTo before.told (Ok (solve ask))) status before now = as_write _ status before now run.goes.ended is in
+    let found = solve_shows before.told ask w.ending w.files w.text w.due in
+    let part = cut_text w.files w.text before now w.cause in
+    let P : List ℕ → Type 0 = ShowsAnswer ask.branchings found.0 in
+    record { bytes = found.0; read = found.1; front = part.0; rest = part.1; shows = subst P part.2 (shows_answer ask found.0 w.ending w.files w.text found.2); printed = part.3 }
+
+-- what is left under the log's name by a run that stopped before its end
+front_at : (ask : SolveWords) (told log_before log_now : Option (List ℕ)) (bytes text : List ℕ) (ending : Ending) (files : List (List ℕ × List ℕ)) → IfSome told (λ all. bytes ≡ all) → (w : Found ask bytes ending files text)
+    → (log_now ≡ log_before) ⊎ IfSome log_now (λ front. (rest : List ℕ) × (search_log w.lib ask.branchings w.entries w.state w.answer ≡ front ++ rest)) → LeavesLog ask told log_before log_now
+front_at ask told log_before None bytes text ending files reads w left = inr tt
+front_at ask told log_before (Some front) bytes text ending files reads w left = elim left [
+  | inl same ↦ inl same
+  | inr part ↦ inr (record {
+    bytes = bytes;
+    told = reads;
+    lib = w.lib;
+    read = w.read;
+    entries = w.entries;
+    state = w.state;
+    answer = w.answer;
+    search = w.search;
+    rest = part.0;
+    log = part.1;
+  })
+]
+
+abbrev LeftAt : List ℕ → List ℕ → Seen → Seen → Type 0
+LeftAt name text before now = (now.told name ≡ before.told name) ⊎ IfSome (now.told name) (λ bytes. (rest : List ℕ) × (text ≡ bytes ++ rest))
+
+front_of_one : (name text : List ℕ) (files : List (List ℕ × List ℕ)) (before now : Seen) → files ≡ (name, text) ∷ [] → HoldsFronts files before now → LeftAt name text before now
+front_of_one name text files before now is holds =
+    let P : List (List ℕ × List ℕ) → Type 0 = λ fs. HoldsFronts fs before now in
+    let one : HoldsFronts ((name, text) ∷ []) before now = subst P is holds in
+    one.fronts 0 (name, text) (omega arith)
+
+whole_front : (told : Option (List ℕ)) (text : List ℕ) → IfSome told (λ bytes. bytes ≡ text) → IfSome told (λ bytes. (rest : List ℕ) × (text ≡ bytes ++ rest))
+whole_front None text is = tt
+whole_front (Some bytes) text is = ([], sym is ∙ sym (append-nil bytes))
 
 nothing_in : (files : List (List ℕ × List ℕ)) (name : List ℕ) → files ≡ [] → Contains (names_of files) name → ⊥
 nothing_in files name none has =
@@ -133,20 +305,34 @@ nothing_in files name none has =
     let it : Contains (names_of []) name = subst P none has in
     absurd (omega (arith, it.1))
 
-no_files : (ending : Ending) (files : List (List ℕ × List ℕ)) (bytes text : List ℕ) → SolveShows ending files bytes text → files ≡ []
-no_files ending files bytes text shows = elim shows [ inl w ↦ w.2 | inr rest ↦ elim rest [ inl w ↦ w.2 | inr w ↦ w.2 ] ]
+left_by_fronts : (ask : SolveWords) (before now : Seen) (ending : Ending) (files : List (List ℕ × List ℕ)) (text : List ℕ) → Shown before.told ask ending files text → HoldsFronts files before now → LeavesLog ask (before.told ask.lib) (before.told ask.log) (now.told ask.log)
+left_by_fronts ask before now ending files text found holds = elim found.2 [
+  | inl w ↦ front_at ask (before.told ask.lib) (before.told ask.log) (now.told ask.log) found.0 text ending files found.1 w (front_of_one ask.log (search_log w.lib ask.branchings w.entries w.state w.answer) files before now w.files_are holds)
+  | inr w ↦ inl (holds.others ask.log (λ has. nothing_in files ask.log w.2 has))
+]
 
--- a write that failed was the text's
-cut_text : (files : List (List ℕ × List ℕ)) (text : List ℕ) (before now : Seen) → files ≡ [] → FailsAtFile files before now ⊎ FailsAtText files text before now → PrintsFrontOf text before now
-cut_text files text before now none cause = elim cause [ inl w ↦ absurd (nothing_in files w.name none w.due) | inr w ↦ w.printed ]
+left_by_all : (ask : SolveWords) (before now : Seen) (ending : Ending) (files : List (List ℕ × List ℕ)) (text : List ℕ) → Shown before.told ask ending files text → HoldsAll files before now → LeavesLog ask (before.told ask.lib) (before.told ask.log) (now.told ask.log)
+left_by_all ask before now ending files text found holds = elim found.2 [
+  | inl w ↦ front_at ask (before.told ask.lib) (before.told ask.log) (now.told ask.log) found.0 text ending files found.1 w (inr (whole_front (now.told ask.log) (search_log w.lib ask.branchings w.entries w.state w.answer) (only_file ask.log (search_log w.lib ask.branchings w.entries w.state w.answer) files before now w.files_are holds)))
+  | inr w ↦ inl (holds.others ask.log (λ has. nothing_in files ask.log w.2 has))
+]
 
-pub cut : (name : List ℕ) (status : Status) (before now : Seen) → Runs (Ok (solve name)) status before now → status ≡ status_of write_fault → PrintsFront ShowsAnswer (before.told name) before.printed now.printed
-cut name status before now run is =
-    let w : FailsToWrite (ComesTo before.told (Ok (solve name))) status before now = as_write _ status before now run.goes.ended is in
-    let found = solve_shows before.told name w.ending w.files w.text w.due in
-    let part = cut_text w.files w.text before now (no_files w.ending w.files found.0 w.text found.2) w.cause in
-    let P : List ℕ → Type 0 = ShowsAnswer found.0 in
-    record { bytes = found.0; read = found.1; front = part.0; rest = part.1; shows = subst P part.2 (shows_answer w.ending w.files found.0 w.text found.2); printed = part.3 }
+left_by_write : (ask : SolveWords) (status : Status) (before now : Seen) → FailsToWrite (ComesTo before.told (Ok (solve ask))) status before now → LeavesLog ask (before.told ask.lib) (before.told ask.log) (now.told ask.log)
+left_by_write ask status before now w =
+    let found = solve_shows before.told ask w.ending w.files w.text w.due in
+    elim w.cause [
+      | inl at_file ↦ left_by_fronts ask before now w.ending w.files w.text found at_file.holds
+      | inr at_text ↦ left_by_all ask before now w.ending w.files w.text found at_text.holds
+    ]
+
+left_by_memory : (ask : SolveWords) (status : Status) (before now : Seen) → WantsMemory (ComesTo before.told (Ok (solve ask))) status before now → LeavesLog ask (before.told ask.lib) (before.told ask.log) (now.told ask.log)
+left_by_memory ask status before now w = elim w.holds [ inl same ↦ inl (same ask.log) | inr part ↦ left_by_fronts ask before now part.0 part.1 part.2 (solve_shows before.told ask part.0 part.1 part.2 part.3) part.4 ]
+
+pub leaves_log : (ask : SolveWords) (status : Status) (before now : Seen) → Solving ask status before now → (status ≡ status_of write_fault) ⊎ (status ≡ status_of no_memory) → LeavesLog ask (before.told ask.lib) (before.told ask.log) (now.told ask.log)
+leaves_log ask status before now run is = elim is [
+  | inl six ↦ left_by_write ask status before now (as_write _ status before now run.goes.ended six)
+  | inr seven ↦ left_by_memory ask status before now (as_memory _ status before now run.goes.ended seven)
+]
 
 -- which faults rose
 pub read_among : (command : Result Asked ℕ) (status : Status) (before now : Seen) → Runs command status before now → status ≡ status_of read_fault → RoseAmong (files_of files_read command) before.reads now.reads
@@ -165,8 +351,12 @@ write_rose command status before now run is =
 pub nothing_among : (before now : List ℕ → ℕ) → RoseAmong [] before now → ⊥
 nothing_among before now rose = absurd (omega (arith, rose.1.1))
 
-print_rose : (name : List ℕ) (status : Status) (before now : Seen) → Runs (Ok (solve name)) status before now → status ≡ status_of write_fault → Rose before.prints now.prints
-print_rose name status before now run is = elim (write_rose (Ok (solve name)) status before now run is) [ inl rose ↦ rose | inr w ↦ absurd (nothing_among before.writes now.writes w) ]
+-- a write that failed was that of the log or of the text
+write_rose_at : (ask : SolveWords) (status : Status) (before now : Seen) → Solving ask status before now → status ≡ status_of write_fault → Rose before.prints now.prints ⊎ Rose (before.writes ask.log) (now.writes ask.log)
+write_rose_at ask status before now run is = elim (write_rose (Ok (solve ask)) status before now run is) [
+  | inl rose ↦ inl rose
+  | inr w ↦ let P : List ℕ → Type 0 = λ n. Rose (before.writes n) (now.writes n) in inr (subst P (only_one ask.log w.0 w.1) w.2)
+]
 
 pub prints_nothing : (command : Result Asked ℕ) (status : Status) (before now : Seen) → Runs command status before now → (status ≡ status_of read_fault) ⊎ (status ≡ status_of no_memory) → now.printed ≡ before.printed
 prints_nothing command status before now run is = elim is [
@@ -231,45 +421,76 @@ writes_stay command status before now run calm = elim run.goes.ended [
 ]
 
 -- which status always comes
-abbrev Completed : Result LibraryParts LibFault → Status → Type 0
-Completed answer status = MatchResult answer (λ lib. Solves lib status) (λ fault. (status ≡ status_of library_refused) ⊎ (status ≡ status_of no_memory))
+abbrev Completed : ℕ → Status → Result LibraryParts LibFault → Type 0
+Completed limit status answer = MatchResult answer (λ lib. Solves lib limit status) (λ fault. (status ≡ status_of library_refused) ⊎ (status ≡ status_of no_memory))
 
-without_memory : (answer : Result LibraryParts LibFault) (status : Status) → status ≡ status_of no_memory → Completed answer status
-without_memory (Ok lib) status is = record {
-  ends = inr (inr is);
+without_memory : (limit : ℕ) (answer : Result LibraryParts LibFault) (status : Status) → status ≡ status_of no_memory → Completed limit status answer
+without_memory limit (Ok lib) status is = record {
+  ends = inr (inr (inr is));
   optimal = λ e. absurd (apart status 7 0 is e (λ t. omega arith));
   none_meets = λ e. absurd (apart status 7 1 is e (λ t. omega arith));
+  enough = λ far e. absurd (apart status 7 2 is e (λ t. omega arith));
 }
-without_memory (Err fault) status is = inr is
+without_memory limit (Err fault) status is = inr is
 
-shown_completes : (bytes text : List ℕ) (ending : Ending) (files : List (List ℕ × List ℕ)) (status : Status) → status ≡ status_of ending → SolveShows ending files bytes text → Completes bytes status
-shown_completes bytes text ending files status is shows =
-    let P : Result LibraryParts LibFault → Type 0 = λ r. Completed r status in
+too_short : (limit far : ℕ) → limit < far → far ≤ limit → ⊥
+too_short limit far short enough = omega arith
+
+solves : (ask : SolveWords) (bytes : List ℕ) (lib : LibraryParts) (entries : List Entry) (state : SearchState) (answer : Answer) (status : Status) → library_of bytes ≡ Ok lib → IsSearch lib ask.branchings ALONE entries state answer → status ≡ status_of (ending_of answer)
+    → Solves lib ask.branchings status
+solves ask bytes lib entries state (Optimal cost) status read is ended = record {
+  ends = inl ended;
+  optimal = λ e. some_admissible lib ask.branchings ALONE entries state cost is;
+  none_meets = λ e. absurd (apart status 0 1 ended e (λ t. omega arith));
+  enough = λ far e. absurd (apart status 0 2 ended e (λ t. omega arith));
+}
+solves ask bytes lib entries state Infeasible status read is ended = record {
+  ends = inr (inl ended);
+  optimal = λ e. absurd (apart status 1 0 ended e (λ t. omega arith));
+  none_meets = λ e. none_admissible lib ask.branchings ALONE entries state is;
+  enough = λ far e. absurd (apart status 1 2 ended e (λ t. omega arith));
+}
+solves ask bytes lib entries state (NodeLimit incumbent) status read is ended = record {
+  ends = inr (inr (inl ended));
+  optimal = λ e. absurd (apart status 2 0 ended e (λ t. omega arith));
+  none_meets = λ e. absurd (apart status 2 1 ended e (λ t. omega arith));
+  enough = λ far e. too_short ask.branchings (2 ^ member_count lib) (limit_spent lib ask.branchings ALONE entries state incumbent is).short far;
+}
+
+shown_completes : (ask : SolveWords) (bytes : List ℕ) (ending : Ending) (files : List (List ℕ × List ℕ)) (text : List ℕ) (status : Status) → status ≡ status_of ending → SolveShows ask bytes ending files text → Completes ask.branchings bytes status
+shown_completes ask bytes ending files text status is shows =
+    let P : Result LibraryParts LibFault → Type 0 = Completed ask.branchings status in
     elim shows [
-      | inl w ↦
-          let zero_is = is ∙ ap status_of w.0 in
-          subst P (sym w.1.read) (record { ends = inl zero_is; optimal = λ e. (w.1.arch, w.1.cheapest.admissible); none_meets = λ e. absurd (apart status 0 1 zero_is e (λ t. omega arith)) })
-      | inr rest ↦ elim rest [
-        | inl w ↦
-            let one_is = is ∙ ap status_of w.0 in
-            subst P (sym w.1.read) (record { ends = inr (inl one_is); optimal = λ e. absurd (apart status 1 0 one_is e (λ t. omega arith)); none_meets = λ e. w.1.none })
-        | inr w ↦ subst P (sym w.1.refused) (inl (is ∙ ap status_of w.0))
-      ]
+      | inl w ↦ subst P (sym w.read) (solves ask bytes w.lib w.entries w.state w.answer status w.read w.search (is ∙ ap status_of w.ending_is))
+      | inr w ↦ subst P (sym w.1.refused) (inl (is ∙ ap status_of w.0))
     ]
 
-pub completes : (name bytes : List ℕ) (status : Status) (before now : Seen) → Runs (Ok (solve name)) status before now → before.told name ≡ Some bytes → (Rose (before.reads name) (now.reads name) → ⊥) → (Rose before.prints now.prints → ⊥) → Completes bytes status
-completes name bytes status before now run tells reads prints = elim run.goes.ended [
+pub completes : (ask : SolveWords) (bytes : List ℕ) (status : Status) (before now : Seen) → Solving ask status before now → before.told ask.lib ≡ Some bytes → (Rose (before.reads ask.lib) (now.reads ask.lib) → ⊥)
+    → (Rose (before.writes ask.log) (now.writes ask.log) → ⊥) → (Rose before.prints now.prints → ⊥) → Completes ask.branchings bytes status
+completes ask bytes status before now run tells reads writes prints = elim run.goes.ended [
   | inl w ↦
-      let found = solve_shows before.told name w.ending w.files w.text w.due in
+      let found = solve_shows before.told ask w.ending w.files w.text w.due in
       let F : Option (List ℕ) → Type 0 = λ o. IfSome o (λ all. found.0 ≡ all) in
       let same : found.0 ≡ bytes = subst F tells found.1 in
-      let P : List ℕ → Type 0 = λ b. Completes b status in
-      subst P same (shown_completes found.0 w.text w.ending w.files status w.ended_so found.2)
+      let P : List ℕ → Type 0 = λ b. Completes ask.branchings b status in
+      subst P same (shown_completes ask found.0 w.ending w.files w.text status w.ended_so found.2)
   | inr faults ↦ elim faults [
-    | inl w ↦ absurd (reads (read_rose name status before now run w.ended_so))
+    | inl w ↦ absurd (reads (read_rose ask status before now run w.ended_so))
     | inr more ↦ elim more [
-      | inl w ↦ absurd (prints (print_rose name status before now run w.ended_so))
-      | inr w ↦ without_memory (library_of bytes) status w.ended_so
+      | inl w ↦ elim (write_rose_at ask status before now run w.ended_so) [ inl rose ↦ absurd (prints rose) | inr rose ↦ absurd (writes rose) ]
+      | inr w ↦ without_memory ask.branchings (library_of bytes) status w.ended_so
     ]
   ]
 ]
+
+-- never with status 2 where the limit is enough
+pub enough : (ask : SolveWords) (bytes : List ℕ) (lib : LibraryParts) (status : Status) (before now : Seen) → Solving ask status before now → before.told ask.lib ≡ Some bytes → library_of bytes ≡ Ok lib → 2 ^ member_count lib ≤ ask.branchings → status ≡ status_of node_limit → ⊥
+enough ask bytes lib status before now run tells read far is =
+    let due : Came ask status before now = as_due _ status before now 2 run.goes.ended is (λ e. omega arith) (λ e. omega arith) (λ e. omega arith) in
+    let found = solve_shows before.told ask due.ending due.files due.text due.due in
+    let F : Option (List ℕ) → Type 0 = λ o. IfSome o (λ all. found.0 ≡ all) in
+    let same : found.0 ≡ bytes = subst F tells found.1 in
+    let P : List ℕ → Type 0 = λ b. Completes ask.branchings b status in
+    let Q : Result LibraryParts LibFault → Type 0 = Completed ask.branchings status in
+    let so : Solves lib ask.branchings status = subst Q read (subst P same (shown_completes ask found.0 due.ending due.files due.text status due.ended_so found.2)) in
+    so.enough far is

@@ -1,7 +1,9 @@
 pub mod Pieces
-pub mod NarrowingLaws
-pub mod SearchLaws
+pub mod LogLaws
+pub mod SearchAnswers
+pub mod StandIn
 pub mod WordLaws
+pub mod NumeralLaws
 pub mod Within
 pub mod RunLaws
 pub mod SinkLaws
@@ -9,5 +11,4 @@ pub mod Coming
 pub mod Headline
 pub mod MassHeadline
 pub mod KeyLaws
-pub mod ReportLaws
 mod WorkedRows

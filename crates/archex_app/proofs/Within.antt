@@ -2,19 +2,19 @@
 use Rattle.std.proofs.Common.{◌≡◌, ℕ, zero, suc, ◌<◌, Option, List, [], ◌∷◌, Ok, Err, Result, refl, sym, subst, inl, inr, ◌⊎◌, arith}
 use Rattle.std.specs.Prelude.{MatchResult, Contains, slice_index_or}
 use Rattle.arch_model.specs.Parts.{LibraryParts, ArchitectureParts}
-use Rattle.arch_model.specs.Admissible.{IsAdmissible}
 use Rattle.lib_read.specs.LibraryOf.{library_of}
 use Rattle.arch_model.specs.Mass.{enclosure_of}
 use Rattle.arch_csv.specs.ArchitectureOf.{architecture_of_bytes}
-use Rattle.archex_app.specs.Status.{Ending, done, infeasible, library_refused, words_refused, architecture_refused}
+use Rattle.search_core.specs.declared.answer.Answer.{Answer}
+use Rattle.search_core.specs.declared.answer.Answer.TheVariants.{Optimal, Infeasible, NodeLimit}
+use Rattle.archex_app.specs.Status.{Ending, done, infeasible, node_limit, library_refused, words_refused, architecture_refused}
 use Rattle.archex_app.specs.Due.{Due, ends, unread}
 use Rattle.archex_app.specs.Words.{Asked, solve, probability, refused_words_text, files_of, files_read, files_written}
-use Rattle.archex_app.specs.Cheapest.{IsCheapest}
-use Rattle.archex_app.specs.Report.{optimal_text, infeasible_text}
+use Rattle.archex_app.specs.Report.{ending_of}
 use Rattle.archex_app.specs.Mass.{IsSinkNamed, mass_text}
 use Rattle.archex_app.specs.Refusal.{refused_library_text, refused_architecture_text}
 use Rattle.archex_app.specs.Endings.{endings_of}
-use Rattle.archex_app.specs.ComesTo.{ComesTo, CommandComesTo, EndsWith, Reads, ReadsAs, SolveComesTo, MassComesTo}
+use Rattle.archex_app.specs.ComesTo.{ComesTo, CommandComesTo, EndsWith, Reads, ReadsAs, SearchComesTo, ALONE, MassComesTo}
 use Rattle.archex_app.specs.Run.{names_of}
 
 -- it ends with one of these endings, and reads and writes none but these files
@@ -124,11 +124,18 @@ at_2 v w x xs = (2, omega arith, refl)
 at_3 : {X : Type 0} (u v w x : X) (xs : List X) → Contains (u ∷ v ∷ w ∷ x ∷ xs) x
 at_3 u v w x xs = (3, omega arith, refl)
 
-solve_within : (lib : List ℕ) (l : LibraryParts) → Within (λ due. SolveComesTo l due) (endings_of (solve lib)) (lib ∷ []) []
-solve_within lib l =
-    either_within (λ due. (arch : ArchitectureParts) × IsCheapest l arch × EndsWith done (optimal_text l arch) due) (λ due. ((arch : ArchitectureParts) → IsAdmissible l arch → ⊥) × EndsWith infeasible infeasible_text due) _ _ _
-    (some_within (IsCheapest l) (λ (arch : ArchitectureParts). EndsWith done (optimal_text l arch)) _ _ _ (λ arch. ends_within done _ _ _ _ (at_0 done (infeasible ∷ library_refused ∷ []))))
-    (given_within (EndsWith infeasible infeasible_text) _ _ _ (ends_within infeasible _ _ _ _ (at_1 done infeasible (library_refused ∷ []))))
+-- what a search comes to: one of three endings, and its log
+ending_is_its_own : (answer : Answer) → Contains (done ∷ infeasible ∷ node_limit ∷ library_refused ∷ []) (ending_of answer)
+ending_is_its_own (Optimal cost) = at_0 done (infeasible ∷ node_limit ∷ library_refused ∷ [])
+ending_is_its_own Infeasible = at_1 done infeasible (node_limit ∷ library_refused ∷ [])
+ending_is_its_own (NodeLimit incumbent) = at_2 done infeasible node_limit (library_refused ∷ [])
+
+search_within : (log : List ℕ) (limit analysts : ℕ) (l : LibraryParts) (reads : List (List ℕ)) → Within (λ due. SearchComesTo log limit analysts l due) (done ∷ infeasible ∷ node_limit ∷ library_refused ∷ []) reads (log ∷ [])
+search_within log limit analysts l reads = record {
+  ending = λ e f t is. let P : Ending → Type 0 = Contains (done ∷ infeasible ∷ node_limit ∷ library_refused ∷ []) in subst P (sym (same_ending is.4)) (ending_is_its_own is.2);
+  written = λ e f t name is has. let P : List (List ℕ × List ℕ) → Type 0 = λ l. Contains (names_of l) name in subst P (same_files is.4) has;
+  read = λ name is. absurd (no_read is.4);
+}
 
 sink_within : (sink : List ℕ) (l : LibraryParts) (a : ArchitectureParts) (read written : List (List ℕ)) → Within (λ due. MassComesTo sink l a due) (done ∷ library_refused ∷ words_refused ∷ architecture_refused ∷ []) read written
 sink_within sink l a read written =
@@ -137,7 +144,9 @@ sink_within sink l a read written =
     (given_within (EndsWith words_refused (refused_words_text 4)) _ _ _ (ends_within words_refused _ _ _ _ (at_2 done library_refused words_refused (architecture_refused ∷ []))))
 
 pub command_within : (told : List ℕ → Option (List ℕ)) (asked : Asked) → Its told asked
-command_within told (solve lib) = reads_as_within library_of library_refused refused_library_text told lib SolveComesTo _ _ _ (at_0 lib []) (at_2 done infeasible library_refused []) (λ l. solve_within lib l)
+command_within told (solve ask) =
+    reads_as_within library_of library_refused refused_library_text told ask.lib (SearchComesTo ask.log ask.branchings ALONE) _ _ _ (at_0 ask.lib []) (at_3 done infeasible node_limit library_refused [])
+    (λ l. search_within ask.log ask.branchings ALONE l (ask.lib ∷ []))
 command_within told (probability lib arch sink) =
     reads_as_within library_of library_refused refused_library_text told lib (λ l. ReadsAs (architecture_of_bytes l) architecture_refused refused_architecture_text told arch (MassComesTo sink l)) _ _ _ (at_0 lib (arch ∷ []))
     (at_1 done library_refused (words_refused ∷ architecture_refused ∷ []))

@@ -2,10 +2,11 @@
 use Rattle.std.specs.Prelude.{◌≡◌, ℕ, Option, List, ◌++◌, ◌⊎◌, Ok, Err, IfSome}
 use Rattle.arch_model.specs.Admissible.{IsAdmissible}
 use Rattle.arch_model.specs.Parts.{LibraryParts, ArchitectureParts}
+use Rattle.incumbent.specs.declared.best.Best.{Best}
 use Rattle.outside.specs.Told.{Appends}
 use Rattle.lib_read.specs.LibraryOf.{library_of}
 use Rattle.archex_app.specs.Cheapest.{IsCheapest}
-use Rattle.archex_app.specs.Report.{optimal_text, infeasible_text}
+use Rattle.archex_app.specs.Report.{optimal_text, infeasible_text, node_limit_text}
 use Rattle.archex_app.specs.Refusal.{refused_library_text}
 use Rattle.lib_read.specs.declared.fault.LibFault.{LibFault}
 
@@ -15,14 +16,27 @@ pub record ShowsCheapest (bytes text : List ℕ) : Type 0 where
   pub read : library_of bytes ≡ Ok lib
   pub arch : ArchitectureParts
   pub cheapest : IsCheapest lib arch
-  pub report : text ≡ optimal_text lib arch
+  pub branchings : ℕ
+  pub cuts : ℕ
+  pub report : text ≡ optimal_text lib arch branchings cuts
 
 -- the bytes are a library, none of whose architectures is admissible
 pub record ShowsInfeasible (bytes text : List ℕ) : Type 0 where
   pub lib : LibraryParts
   pub read : library_of bytes ≡ Ok lib
   pub none : (arch : ArchitectureParts) → IsAdmissible lib arch → ⊥
-  pub report : text ≡ infeasible_text
+  pub branchings : ℕ
+  pub cuts : ℕ
+  pub report : text ≡ infeasible_text branchings cuts
+
+-- the bytes are a library, and the text says that all the branchings of a limit were made, with an admissible architecture or none
+pub record ShowsNodeLimit (limit : ℕ) (bytes text : List ℕ) : Type 0 where
+  pub lib : LibraryParts
+  pub read : library_of bytes ≡ Ok lib
+  pub best : Option Best
+  pub admissible : IfSome best (λ found. IsAdmissible lib found.architecture)
+  pub cuts : ℕ
+  pub report : text ≡ node_limit_text lib best limit cuts
 
 -- the bytes are no library, and the text names their first fault
 pub record ShowsRefusal (bytes text : List ℕ) : Type 0 where
@@ -30,9 +44,9 @@ pub record ShowsRefusal (bytes text : List ℕ) : Type 0 where
   pub refused : library_of bytes ≡ Err fault
   pub report : text ≡ refused_library_text fault
 
--- a text that shows one of the three
-abbrev pub ShowsAnswer : List ℕ → List ℕ → Type 0
-ShowsAnswer bytes text = ShowsCheapest bytes text ⊎ (ShowsInfeasible bytes text ⊎ ShowsRefusal bytes text)
+-- a text that shows one of the four
+abbrev pub ShowsAnswer : ℕ → List ℕ → List ℕ → Type 0
+ShowsAnswer limit bytes text = ShowsCheapest bytes text ⊎ (ShowsInfeasible bytes text ⊎ (ShowsNodeLimit limit bytes text ⊎ ShowsRefusal bytes text))
 
 -- a text was printed whole that shows a fact of a file's bytes: those that the shelf tells, or where it tells none, some bytes, of which nothing more is said
 pub record Prints (Shows : List ℕ → List ℕ → Type 0) (told before now : Option (List ℕ)) : Type 0 where

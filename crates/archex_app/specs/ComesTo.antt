@@ -1,15 +1,17 @@
 -- What the words come to, over what the shelf tells under each name. The order of refusals stands here, once for all commands: the words; reading the library; the library; reading the architecture; the architecture; the sink; then the command's own job.
-use Rattle.std.specs.Prelude.{◌≡◌, ℕ, Option, List, [], ◌⊎◌, Result, Ok, Err, IfSome, MatchResult}
+use Rattle.std.specs.Prelude.{◌≡◌, ℕ, Option, List, [], ◌∷◌, ◌⊎◌, Result, Ok, Err, IfSome, MatchResult}
 use Rattle.arch_model.specs.Parts.{LibraryParts, ArchitectureParts}
-use Rattle.arch_model.specs.Admissible.{IsAdmissible}
 use Rattle.arch_model.specs.Mass.{enclosure_of}
+use Rattle.search_core.specs.declared.entry.Entry.{Entry}
+use Rattle.search_core.specs.declared.answer.Answer.{Answer}
+use Rattle.search_core.specs.State.{SearchState}
 use Rattle.lib_read.specs.LibraryOf.{library_of}
 use Rattle.arch_csv.specs.ArchitectureOf.{architecture_of_bytes}
-use Rattle.archex_app.specs.Status.{Ending, done, infeasible, library_refused, words_refused, architecture_refused}
+use Rattle.archex_app.specs.Status.{Ending, done, library_refused, words_refused, architecture_refused}
 use Rattle.archex_app.specs.Due.{Due, ends, unread}
 use Rattle.archex_app.specs.Words.{Asked, solve, probability, refused_words_text}
-use Rattle.archex_app.specs.Cheapest.{IsCheapest}
-use Rattle.archex_app.specs.Report.{optimal_text, infeasible_text}
+use Rattle.archex_app.specs.Search.{IsSearch, search_log}
+use Rattle.archex_app.specs.Report.{search_report, ending_of}
 use Rattle.archex_app.specs.Mass.{IsSinkNamed, mass_text}
 use Rattle.archex_app.specs.Refusal.{refused_library_text, refused_architecture_text}
 
@@ -39,11 +41,15 @@ OverSink lib name place Job due =
     ((sink : ℕ) × IsSinkNamed lib name sink × Job sink due)
     ⊎ (((sink : ℕ) → IsSinkNamed lib name sink → ⊥) × EndsWith words_refused (refused_words_text place) due)
 
--- what `solve` comes to: the report of an admissible architecture of least cost, or that none is admissible
-abbrev pub SolveComesTo : LibraryParts → Due → Type 0
-SolveComesTo lib due =
-    ((arch : ArchitectureParts) × IsCheapest lib arch × EndsWith done (optimal_text lib arch) due)
-    ⊎ (((arch : ArchitectureParts) → IsAdmissible lib arch → ⊥) × EndsWith infeasible infeasible_text due)
+-- what a search comes to: its log under a name, and the report of its answer
+abbrev pub SearchComesTo : List ℕ → ℕ → ℕ → LibraryParts → Due → Type 0
+SearchComesTo log limit analysts lib due =
+    (entries : List Entry) × (state : SearchState) × (answer : Answer) × IsSearch lib limit analysts entries state answer
+    × (due ≡ ends (ending_of answer) ((log, search_log lib limit entries state answer) ∷ []) (search_report lib state answer))
+
+-- how many analysts there are where one worker searches
+abbrev pub ALONE : ℕ
+ALONE = 1
 
 -- what `probability` comes to: two bounds of the failure mass of the sink, whose name is word 4
 abbrev pub MassComesTo : List ℕ → LibraryParts → ArchitectureParts → Due → Type 0
@@ -51,7 +57,7 @@ MassComesTo sink lib arch due = OverSink lib sink 4 (λ s. EndsWith done (mass_t
 
 -- what a command comes to
 abbrev pub CommandComesTo : (List ℕ → Option (List ℕ)) → Asked → Due → Type 0
-CommandComesTo told (solve lib) due = OverLibrary told lib SolveComesTo due
+CommandComesTo told (solve ask) due = OverLibrary told ask.lib (SearchComesTo ask.log ask.branchings ALONE) due
 CommandComesTo told (probability lib arch sink) due = OverArchitecture told lib arch (MassComesTo sink) due
 
 -- what words come to: their command, or the refusal for the first that isn't as it should be

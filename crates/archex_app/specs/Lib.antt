@@ -3,6 +3,7 @@ pub mod Words
 pub mod Commands
 pub mod Cheapest
 pub mod Report
+pub mod Search
 pub mod Mass
 pub mod Refusal
 pub mod Due
@@ -12,4 +13,6 @@ pub mod Run
 pub mod Answer
 pub mod MassAnswer
 pub mod Complete
+pub mod Searched
 pub mod Inner
+pub mod StandIn

@@ -1,18 +1,28 @@
 -- The words of a command.
-use Rattle.std.specs.Prelude.{◌≡◌, ℕ, ◌+◌, nat_lt, List, [], ◌∷◌, ◌++◌, map, length, codes, String, string_bytes, Option, Some, None, Result, Ok, Err, if◌then◌else◌}
+use Rattle.std.specs.Prelude.{◌≡◌, ℕ, ◌+◌, nat_le, nat_lt, ◌&&◌, ◌||◌, not, List, [], ◌∷◌, ◌++◌, map, length, codes, String, string_bytes, Option, Some, None, Result, Ok, Err, if◌then◌else◌}
 use Rattle.std.specs.Option.{option_map_or}
 use Rattle.std.specs.Str.{bytes_eq}
+use Rattle.std.specs.Str.Parse.{digits_value}
 use Rattle.std.specs.Fmt.{decimal}
+use Rattle.search_core.specs.declared.limits.TheConstants.{BRANCHINGS, WORKERS}
 use Rattle.std.specs.declared.alloc.Global.{Global}
 
 -- the bytes of each word
 abbrev pub texts : List (String Global) → List (List ℕ)
 texts words = map (λ (w : String Global). string_bytes w) words
 
+-- what the words after `solve` say: the names of a library and of a log, the limit of branchings, and how many workers there are, of whom so many are analysts
+pub record SolveWords : Type 0 where
+  pub lib : List ℕ
+  pub log : List ℕ
+  pub branchings : ℕ
+  pub workers : ℕ
+  pub analysts : ℕ
+
 -- what the words may ask for
 pub data Asked : Type 0 where
-  -- to solve the library of a name
-  solve : List ℕ → Asked
+  -- to solve a library
+  solve : SolveWords → Asked
   -- the failure mass: of a library's and an architecture's name, and of a component's
   probability : List ℕ → List ℕ → List ℕ → Asked
 
@@ -29,10 +39,37 @@ unless_empty args asked = option_map_or Err (empty_word 2 args) (Ok asked)
 abbrev pub miscounted : ℕ → List (List ℕ) → ℕ
 miscounted wanted args = if nat_lt (length args) wanted then length args + 2 else wanted + 2
 
--- the words after `solve`: a library's name
+-- the number of which a word is the decimal text, so without sign or leading zero, where it lies from a least to a greatest one
+abbrev pub numeral : ℕ → ℕ → List ℕ → Option ℕ
+numeral least most word =
+    let n = digits_value 10 word in
+    if bytes_eq (decimal n) word && (nat_le least n && nat_le n most) then Some n else None
+
+-- goes on with a number, or names the place of the word that isn't one
+abbrev pub numbered : ℕ → Option ℕ → (ℕ → Result Asked ℕ) → Result Asked ℕ
+numbered place None then = Err place
+numbered place (Some n) then = then n
+
+-- the numbers after the names: the limit of branchings, the workers, and the analysts, of whom there are no more than workers
+abbrev pub solve_numbers : List ℕ → List ℕ → List ℕ → List ℕ → List ℕ → Result Asked ℕ
+solve_numbers lib log branchings workers analysts =
+    numbered 4 (numeral 0 BRANCHINGS branchings) (λ b.
+    numbered 5 (numeral 1 WORKERS workers) (λ w.
+    numbered 6 (numeral 0 w analysts) (λ a.
+    Ok (solve (record { lib = lib; log = log; branchings = b; workers = w; analysts = a })))))
+
+-- the place of the first bad name after `solve`: neither is empty, and the log's is another than the library's
+abbrev pub bad_name : List ℕ → List ℕ → Option ℕ
+bad_name lib log =
+    if not (nat_lt 0 (length lib)) then Some 2
+    else if not (nat_lt 0 (length log)) || bytes_eq log lib then Some 3
+    else None
+
+-- the words after `solve`: the names of a library and of a log, and three numbers
 abbrev pub solve_of : List (List ℕ) → Result Asked ℕ
-solve_of (lib ∷ []) = unless_empty (lib ∷ []) (solve lib)
-solve_of args = Err (miscounted 1 args)
+solve_of (lib ∷ log ∷ branchings ∷ workers ∷ analysts ∷ []) =
+    option_map_or Err (bad_name lib log) (solve_numbers lib log branchings workers analysts)
+solve_of args = Err (miscounted 5 args)
 
 -- the words after `probability`: the names of a library, of an architecture and of a component
 abbrev pub probability_of : List (List ℕ) → Result Asked ℕ
@@ -47,9 +84,9 @@ command_of (command ∷ args) =
     else if bytes_eq command (codes "probability") then probability_of args
     else Err 1
 
--- the words ask to solve the library of that name
-abbrev pub AskToSolve : List (List ℕ) → List ℕ → Type 0
-AskToSolve words name = command_of words ≡ Ok (solve name)
+-- the words ask to solve a library
+abbrev pub AskToSolve : List (List ℕ) → SolveWords → Type 0
+AskToSolve words ask = command_of words ≡ Ok (solve ask)
 
 -- the words ask for the failure mass of a component in an architecture of a library
 abbrev pub AskForMass : List (List ℕ) → List ℕ → List ℕ → List ℕ → Type 0
@@ -57,12 +94,12 @@ AskForMass words lib arch sink = command_of words ≡ Ok (probability lib arch s
 
 -- the files that a command reads
 abbrev pub files_read : Asked → List (List ℕ)
-files_read (solve lib) = lib ∷ []
+files_read (solve ask) = ask.lib ∷ []
 files_read (probability lib arch sink) = lib ∷ arch ∷ []
 
 -- the files that a command writes
 abbrev pub files_written : Asked → List (List ℕ)
-files_written (solve lib) = []
+files_written (solve ask) = ask.log ∷ []
 files_written (probability lib arch sink) = []
 
 -- those of the command that words are; of refused words none

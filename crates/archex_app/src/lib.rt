@@ -25,7 +25,7 @@
 
 mod architecture;
 mod library;
-mod narrowing;
+mod log_file;
 mod outcome;
 mod printing;
 mod probability;
@@ -33,9 +33,9 @@ mod reading;
 mod refusal;
 mod report;
 mod run;
-mod search;
 mod sink;
 mod solve;
+mod stand_in;
 mod status;
 mod sure;
 mod words;
@@ -55,3 +55,5 @@ mod tests_of_cuts;
 mod tests_of_probability;
 #[cfg(test)]
 mod tests_of_requirements;
+#[cfg(test)]
+mod tests_of_searches;

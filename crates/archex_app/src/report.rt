@@ -1,12 +1,18 @@
-// The report of an architecture: its cost, the text of its file, and what its sinks weigh.
-ghost use Rattle.std.specs.Prelude.{◌≡◌, ◌<◌, ◌++◌, codes, length, IfOk, OnOk, string_bytes};
+// The report of a search: its answer, the best architecture, and what it took.
+ghost use Rattle.std.specs.Prelude.{◌≡◌, ◌<◌, ◌++◌, codes, length, OnOk, IfOk, IfSome, string_bytes};
 ghost use Rattle.std.specs.Fmt.{decimal};
 ghost use Rattle.std.specs.List.{flat_map};
-ghost use Rattle.arch_model.specs.Architecture.{IsArchitecture, cost_of};
-ghost use Rattle.archex_app.specs.Report.{weight_line, optimal_text};
+ghost use Rattle.arch_model.specs.Architecture.{IsArchitecture};
+ghost use Rattle.archex_app.specs.Report.{weight_line, architecture_lines, best_lines};
+ghost use Rattle.archex_app.specs.Report.{counts_text, report_text, ending_of};
+ghost use Rattle.archex_app.specs.Status.{status_of};
+ghost use Rattle.archex_app.specs.Inner.Report.{status_line, found_lines, HasBest};
 
+use crate::status::Status;
 use arch_csv::write_architecture;
 use arch_model::{Architecture, Library, Memory, Requirement};
+use incumbent::Best;
+use search_core::Answer;
 use sink_weight::weight;
 use std::alloc::Global;
 use template::push_name;
@@ -54,31 +60,106 @@ fn weight_lines(alloc: Global, lib: &Library, architecture: &Architecture) -> Re
     Ok(text)
 }
 
-// The first lines: how the search ended, and the cost.
-fn first_lines(alloc: Global, cost: u64) -> Result<String, Memory>
-    ensures { IfOk result (λ text. string_bytes text
-        ≡ codes "status optimal\ncost " ++ decimal cost ++ codes "\n") }
+// The line of a cost.
+fn cost_line(alloc: Global, cost: u64) -> Result<String, Memory>
+    ensures { IfOk result (λ text. string_bytes text ≡ codes "cost " ++ decimal cost ++ codes "\n") }
 {
     let mut text = String::new(alloc);
-    write!(text, "status optimal\ncost {cost}\n")?;
+    write!(text, "cost {cost}\n")?;
     Ok(text)
 }
 
-/// The report of an architecture that was found to be cheapest.
-pub fn optimal_report(
+// The lines of how many branchings and cuts there were.
+fn counts(alloc: Global, branchings: u32, cuts: u32) -> Result<String, Memory>
+    ensures { IfOk result (λ text. string_bytes text ≡ counts_text branchings cuts) }
+{
+    let mut text = String::new(alloc);
+    write!(text, "branchings {branchings}\n")?;
+    write!(text, "cuts {cuts}\n")?;
+    Ok(text)
+}
+
+// Appends an architecture: its cost, the text of its file, and what its required sinks weigh.
+fn push_found(report: &mut Vec<u8>, lib: &Library, found: &Best) -> Result<(), Memory>
+    requires { HasBest lib.now found.now }
+    ensures { OnOk result (report.new.items ≡ report.old.items
+        ++ architecture_lines lib.now found.now.architecture) }
+{
+    let alloc = *report.allocator();
+    let cost = cost_line(alloc, found.cost)?;
+    report.extend_from_slice(cost.as_bytes())?;
+    write_architecture(lib, &found.architecture, report)?;
+    let weights = weight_lines(alloc, lib, &found.architecture)?;
+    report.extend_from_slice(weights.as_bytes())?;
+    Ok(())
+}
+
+// Appends the best that was found, or that there is none.
+fn push_best(report: &mut Vec<u8>, lib: &Library, best: &Option<Best>) -> Result<(), Memory>
+    requires { IfSome best.now (HasBest lib.now) }
+    ensures { OnOk result (report.new.items ≡ report.old.items ++ best_lines lib.now best.now) }
+{
+    match best {
+        Some(found) => push_found(report, lib, found),
+        None => report.extend_from_slice(b"incumbent none\n"),
+    }
+}
+
+// Appends the best, where an answer shows it.
+fn push_answer(
+    report: &mut Vec<u8>,
+    lib: &Library,
+    answer: &Answer,
+    best: &Option<Best>,
+) -> Result<(), Memory>
+    requires { IfSome best.now (HasBest lib.now) }
+    ensures { OnOk result (report.new.items ≡ report.old.items
+        ++ found_lines lib.now answer.now best.now) }
+{
+    match answer {
+        Answer::Optimal { .. } | Answer::NodeLimit { .. } => push_best(report, lib, best),
+        Answer::Infeasible => Ok(()),
+    }
+}
+
+// The first line of an answer's report.
+fn first_line(answer: &Answer) -> &'static [u8]
+    ensures { result.now ≡ status_line answer.now }
+{
+    match answer {
+        Answer::Optimal { .. } => b"status optimal\n",
+        Answer::Infeasible => b"status infeasible\n",
+        Answer::NodeLimit { .. } => b"status nodelimit\n",
+    }
+}
+
+/// How a run ends that came to an answer.
+pub fn status_for(answer: &Answer) -> Status
+    ensures { result ≡ status_of (ending_of answer.now) }
+{
+    match answer {
+        Answer::Optimal { .. } => Status::DONE,
+        Answer::Infeasible => Status::INFEASIBLE,
+        Answer::NodeLimit { .. } => Status::NODE_LIMIT,
+    }
+}
+
+/// The report of an answer, with the best of its search and how many branchings and cuts that had.
+pub fn report(
     alloc: Global,
     lib: &Library,
-    cost: u64,
-    architecture: &Architecture,
+    answer: &Answer,
+    best: &Option<Best>,
+    branchings: u32,
+    cuts: u32,
 ) -> Result<Vec<u8>, Memory>
-    requires architecture { IsArchitecture lib.now architecture.now }
-    requires cost { cost ≡ cost_of lib.now architecture.now }
-    ensures { IfOk result (λ report. report.items ≡ optimal_text lib.now architecture.now) }
+    requires { IfSome best.now (HasBest lib.now) }
+    ensures { IfOk result (λ report. report.items
+        ≡ report_text lib.now answer.now best.now branchings cuts) }
 {
-    let first = first_lines(alloc, cost)?;
-    let mut report = first.into_bytes();
-    write_architecture(lib, architecture, &mut report)?;
-    let weights = weight_lines(alloc, lib, architecture)?;
-    report.extend_from_slice(weights.as_bytes())?;
+    let mut report = Vec::from_slice(alloc, first_line(answer))?;
+    push_answer(&mut report, lib, answer, best)?;
+    let counts = counts(alloc, branchings, cuts)?;
+    report.extend_from_slice(counts.as_bytes())?;
     Ok(report)
 }

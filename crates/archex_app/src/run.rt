@@ -1,16 +1,21 @@
 // The top call.
-ghost use Rattle.std.specs.Prelude.{◌≡◌, ℕ, ◌≤◌, ◌⊎◌, IsErr, Err, List, Contains};
+ghost use Rattle.std.specs.Prelude.{◌≡◌, ℕ, ◌^◌, ◌≤◌, ◌⊎◌, IsErr, Ok, Err, List, Contains};
 ghost use Rattle.outside.specs.Faults.{Rose, Stay, ChangesOnly};
 ghost use Rattle.outside.specs.Told.{Appends};
+ghost use Rattle.arch_model.specs.Parts.{LibraryParts};
+ghost use Rattle.arch_model.specs.Member.{member_count};
+ghost use Rattle.lib_read.specs.LibraryOf.{library_of};
 ghost use Rattle.archex_app.specs.Words.{texts, command_of, files_of, files_read, files_written};
-ghost use Rattle.archex_app.specs.Words.{AskToSolve, AskForMass, refused_words_text};
-ghost use Rattle.archex_app.specs.Status.{status_of, done, infeasible, library_refused, words_refused};
+ghost use Rattle.archex_app.specs.Words.{SolveWords, AskToSolve, AskForMass, refused_words_text};
+ghost use Rattle.archex_app.specs.Status.{status_of, done, infeasible, node_limit, library_refused};
+ghost use Rattle.archex_app.specs.Status.{words_refused};
 ghost use Rattle.archex_app.specs.Status.{read_fault, write_fault, no_memory, architecture_refused};
 ghost use Rattle.archex_app.specs.Endings.{MayEnd};
 ghost use Rattle.archex_app.specs.Run.{Runs, RoseAmong, seen};
 ghost use Rattle.archex_app.specs.Complete.{Completes};
-ghost use Rattle.archex_app.specs.Answer.{ShowsCheapest, ShowsInfeasible, ShowsRefusal, ShowsAnswer};
-ghost use Rattle.archex_app.specs.Answer.{Prints, PrintsFront};
+ghost use Rattle.archex_app.specs.Answer.{ShowsCheapest, ShowsInfeasible, ShowsNodeLimit, ShowsRefusal};
+ghost use Rattle.archex_app.specs.Answer.{ShowsAnswer, Prints, PrintsFront};
+ghost use Rattle.archex_app.specs.Searched.{Answered, ShowsSearch, LeavesLog};
 ghost use Rattle.archex_app.specs.MassAnswer.{ShowsMass, RefusesArchitecture, RefusesSink, PrintsOver, CompletesMass};
 ghost use Rattle.archex_app.specs.Inner.Outcome.{Printed};
 
@@ -48,7 +53,15 @@ fn run_command<F: Shelf, O: Sink>(
     ensures untouched { IsErr (command_of (texts words.now)) → shelf.new ≡ shelf.old }
 {
     match read_words(words) {
-        Ok(Command::Solve { lib }) => solve_library(alloc, lib, shelf, out),
+        // one worker searches, however many there may be
+        Ok(
+            Command::Solve {
+                lib,
+                log,
+                branchings,
+                ..
+            },
+        ) => solve_library(alloc, lib, log, branchings, shelf, out),
         Ok(Command::Probability { lib, arch, sink }) => {
             enclose_mass(alloc, lib, arch, sink, shelf, out)
         }
@@ -56,10 +69,11 @@ fn run_command<F: Shelf, O: Sink>(
     }
 }
 
-/// Does what the words ask, with one worker: `solve LIB` reads the library LIB from the shelf,
-/// searches for an architecture of least cost among all that meet its patterns and keep its bounds
-/// on weights, and prints a report to the sink. `probability LIB ARCH SINK` reads a library and an
-/// architecture of it, and prints two bounds of the failure mass of a sink.
+/// Does what the words ask, with one worker: `solve LIB LOG BRANCHINGS WORKERS ANALYSTS` reads the
+/// library LIB from the shelf, searches for an architecture of least cost among all that meet its
+/// patterns and keep its bounds on weights, for at most BRANCHINGS branchings, writes the log of the
+/// search under LOG, and prints a report to the sink. `probability LIB ARCH SINK` reads a library
+/// and an architecture of it, and prints two bounds of the failure mass of a sink.
 ///
 /// It returns for all arguments; want of memory alone is free to come anywhere, but for words that
 /// are refused, which take none.
@@ -79,22 +93,39 @@ pub fn run_plain<F: Shelf, O: Sink>(
 
     // What each status of `solve` says of the bytes of LIB, of all architectures of its template,
     // and of what was printed.
-    ensures optimal { (name : List ℕ) → AskToSolve (texts words.now) name → result ≡ status_of done
-        → Prints ShowsCheapest (F.told shelf.old name) (O.told out.old) (O.told out.new) }
-    ensures infeasible { (name : List ℕ) → AskToSolve (texts words.now) name → result ≡ status_of infeasible
-        → Prints ShowsInfeasible (F.told shelf.old name) (O.told out.old) (O.told out.new) }
-    ensures refused_library { (name : List ℕ) → AskToSolve (texts words.now) name → result ≡ status_of library_refused
-        → Prints ShowsRefusal (F.told shelf.old name) (O.told out.old) (O.told out.new) }
-    ensures read_fault { (name : List ℕ) → AskToSolve (texts words.now) name → result ≡ status_of read_fault
-        → Rose (F.read_faults shelf.old name) (F.read_faults shelf.new name) }
-    ensures cut { (name : List ℕ) → AskToSolve (texts words.now) name → result ≡ status_of write_fault
-        → PrintsFront ShowsAnswer (F.told shelf.old name) (O.told out.old) (O.told out.new) }
+    ensures optimal { (ask : SolveWords) → AskToSolve (texts words.now) ask → result ≡ status_of done
+        → Prints ShowsCheapest (F.told shelf.old ask.lib) (O.told out.old) (O.told out.new) }
+    ensures infeasible { (ask : SolveWords) → AskToSolve (texts words.now) ask → result ≡ status_of infeasible
+        → Prints ShowsInfeasible (F.told shelf.old ask.lib) (O.told out.old) (O.told out.new) }
+    ensures limit_met { (ask : SolveWords) → AskToSolve (texts words.now) ask → result ≡ status_of node_limit
+        → Prints (ShowsNodeLimit ask.branchings) (F.told shelf.old ask.lib) (O.told out.old) (O.told out.new) }
+    ensures refused_library { (ask : SolveWords) → AskToSolve (texts words.now) ask → result ≡ status_of library_refused
+        → Prints ShowsRefusal (F.told shelf.old ask.lib) (O.told out.old) (O.told out.new) }
+    ensures read_fault { (ask : SolveWords) → AskToSolve (texts words.now) ask → result ≡ status_of read_fault
+        → Rose (F.read_faults shelf.old ask.lib) (F.read_faults shelf.new ask.lib) }
+    ensures cut { (ask : SolveWords) → AskToSolve (texts words.now) ask → result ≡ status_of write_fault
+        → PrintsFront (ShowsAnswer ask.branchings) (F.told shelf.old ask.lib) (O.told out.old) (O.told out.new) }
 
-    // A library that the shelf tells is solved or refused, where no call of the outside failed and
-    // there was memory.
-    ensures complete { (name bytes : List ℕ) → AskToSolve (texts words.now) name → F.told shelf.old name ≡ Some bytes
-        → ¬ Rose (F.read_faults shelf.old name) (F.read_faults shelf.new name)
-        → ¬ Rose (O.faults out.old) (O.faults out.new) → Completes bytes result }
+    // Every answer of `solve` is that of one history of the search, whose log stands under LOG and
+    // passes, and each of whose cuts holds in every admissible architecture. A run that stops before
+    // its end leaves LOG as it was, or a front of such a log.
+    ensures searched { (ask : SolveWords) → AskToSolve (texts words.now) ask → Answered result
+        → ShowsSearch ask result (F.told shelf.old ask.lib) (F.told shelf.new ask.log)
+        (O.told out.old) (O.told out.new) }
+    ensures stopped { (ask : SolveWords) → AskToSolve (texts words.now) ask
+        → (result ≡ status_of write_fault) ⊎ (result ≡ status_of no_memory)
+        → LeavesLog ask (F.told shelf.old ask.lib) (F.told shelf.old ask.log) (F.told shelf.new ask.log) }
+
+    // A library that the shelf tells is searched or refused, where no call of the outside failed and
+    // there was memory. A limit of 2 to the number of its members is never met.
+    ensures complete { (ask : SolveWords) (bytes : List ℕ) → AskToSolve (texts words.now) ask
+        → F.told shelf.old ask.lib ≡ Some bytes
+        → ¬ Rose (F.read_faults shelf.old ask.lib) (F.read_faults shelf.new ask.lib)
+        → ¬ Rose (F.write_faults shelf.old ask.log) (F.write_faults shelf.new ask.log)
+        → ¬ Rose (O.faults out.old) (O.faults out.new) → Completes ask.branchings bytes result }
+    ensures enough { (ask : SolveWords) (bytes : List ℕ) (lib : LibraryParts) → AskToSolve (texts words.now) ask
+        → F.told shelf.old ask.lib ≡ Some bytes → library_of bytes ≡ Ok lib
+        → 2 ^ member_count lib ≤ ask.branchings → ¬ (result ≡ status_of node_limit) }
 
     // What each status of `probability` says of the bytes of LIB and ARCH, of SINK and of what was
     // printed.

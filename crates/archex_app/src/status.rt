@@ -11,13 +11,15 @@ impl Status {
     pub const DONE: Status = Status(0);
     /// No architecture meets the patterns and keeps the bounds on weights.
     pub const INFEASIBLE: Status = Status(1);
+    /// The limit of branchings was spent before the search was over.
+    pub const NODE_LIMIT: Status = Status(2);
     /// The bytes of the library file aren't a library.
     pub const LIBRARY_REFUSED: Status = Status(3);
     /// The words are no command, or name a sink that the library doesn't have.
     pub const WORDS_REFUSED: Status = Status(4);
     /// A read of a file failed.
     pub const READ_FAULT: Status = Status(5);
-    /// A write failed: the text couldn't be printed whole.
+    /// A write failed: of a file, or the text couldn't be printed whole.
     pub const WRITE_FAULT: Status = Status(6);
     /// There was no memory.
     pub const NO_MEMORY: Status = Status(7);

@@ -7,7 +7,27 @@ const X: &[u8] = b"type = [{name = \"x\", role = \"middle\", cost = 7}]
 pattern = [{kind = \"count\", type = \"x\", min = 1}]
 ";
 
-const X_REPORT: &[u8] = b"status optimal\ncost 7\nkind,from,to\ncomponent,x.1,\n";
+const X_REPORT: &[u8] =
+    b"status optimal\ncost 7\nkind,from,to\ncomponent,x.1,\nbranchings 0\ncuts 0\n";
+
+const X_LOG: &[u8] = b"archex-log 1
+vars 1 0
+limit 0
+take 0 0 0 none
+offer 0 0 b0
+study 0 0
+accept 0 0 7
+answer optimal 7 0 0
+";
+
+/// The words that ask to solve the library of `run_on`, with as many branchings as there may be.
+pub(crate) const SOLVE: &[&str] = &["solve", "x.toml", "x.log", "100000", "1", "0"];
+
+// The words of the stored log.
+const SOLVE_X: &[&str] = &["solve", "x.toml", "x.log", "0", "1", "0"];
+
+// How many bytes a log of these tests may have.
+const LOG_ROOM: usize = 1 << 20;
 
 // The words, each as a text of its own.
 fn words_of(alloc: Global, words: &[&str]) -> Result<Vec<String>, AllocError> {
@@ -18,6 +38,19 @@ fn words_of(alloc: Global, words: &[&str]) -> Result<Vec<String>, AllocError> {
     Ok(all)
 }
 
+// A shelf with a library under `x.toml` and a text under `x.log`, with these calls failing.
+fn shelf_with(
+    alloc: Global,
+    library: &[u8],
+    log: &[u8],
+    failing_calls: &[u64],
+) -> Result<MemShelf, AllocError> {
+    let mut shelf = MemShelf::new(alloc, LOG_ROOM, failing_calls)?;
+    shelf.put("x.toml", library)?;
+    shelf.put("x.log", log)?;
+    Ok(shelf)
+}
+
 // What a run of some words over a library printed, and its status, with these calls failing.
 pub(crate) fn run_on(
     alloc: Global,
@@ -26,17 +59,26 @@ pub(crate) fn run_on(
     failing_calls: &[u64],
 ) -> Result<(Status, Vec<u8>), AllocError> {
     let words = words_of(alloc, words)?;
-    let mut shelf = MemShelf::new(alloc, 0, failing_calls)?;
-    shelf.put("x.toml", library)?;
+    let mut shelf = shelf_with(alloc, library, b"", failing_calls)?;
     let mut sink = MemSink::new(alloc, 4096, &[])?;
     let status = run_plain(alloc, words.as_slice(), &mut shelf, &mut sink);
     let printed = sink.bytes().to_vec(alloc)?;
     Ok((status, printed))
 }
 
-// Libraries with the status and the text that are due: no component, one that is required, two of
-// which three are required, and forty of which all are, where a search that looks at whole choices
-// alone would take for ever.
+/// A report up to its last two lines, the numbers of branchings and of cuts.
+pub(crate) fn without_counts(report: &[u8]) -> &[u8] {
+    for end in 0..report.len() {
+        if report[end..].starts_with(b"branchings ") {
+            return &report[..end];
+        }
+    }
+    report
+}
+
+// Libraries with the status and the text that are due, without a branching: no component, one that is
+// required, two of which three are required, and forty of which all are, where a search that looks
+// at whole choices alone would take for ever.
 #[test]
 fn libraries_are_solved(rt: HostRuntime) -> Result<(), Fail> {
     let too_few = b"type = [{name = \"p\", role = \"source\", max = 2, cost = 3}]
@@ -46,12 +88,20 @@ pattern = [{kind = \"count\", type = \"p\", min = 3}]
 pattern = [{kind = \"count\", type = \"p\", min = 40}]
 ";
     let rows: [(&[u8], Status, &[u8]); 3] = [
-        (b"", Status(0), b"status optimal\ncost 0\nkind,from,to\n"),
+        (
+            b"",
+            Status(0),
+            b"status optimal\ncost 0\nkind,from,to\nbranchings 0\ncuts 0\n",
+        ),
         (X, Status(0), X_REPORT),
-        (too_few, Status(1), b"status infeasible\n"),
+        (
+            too_few,
+            Status(1),
+            b"status infeasible\nbranchings 0\ncuts 0\n",
+        ),
     ];
     for (library, status, text) in rows {
-        let (ended, printed) = run_on(rt.alloc(), &["solve", "x.toml"], library, &[])?;
+        let (ended, printed) = run_on(rt.alloc(), SOLVE, library, &[])?;
         assert_eq!(rt; ended, status);
         assert_eq!(rt; printed.as_slice(), text);
     }
@@ -68,7 +118,7 @@ pattern = [{kind = \"count\", type = \"p\", min = 40}]
         ),
     ];
     for (library, front) in fronts {
-        let (ended, printed) = run_on(rt.alloc(), &["solve", "x.toml"], library, &[])?;
+        let (ended, printed) = run_on(rt.alloc(), SOLVE, library, &[])?;
         assert_eq!(rt; ended, Status(0));
         assert!(rt; printed.as_slice().starts_with(front));
     }
@@ -140,7 +190,7 @@ pattern = [
         ),
     ];
     for (library, cost, choices) in rows {
-        let (ended, printed) = run_on(rt.alloc(), &["solve", "x.toml"], library, &[])?;
+        let (ended, printed) = run_on(rt.alloc(), SOLVE, library, &[])?;
         assert_eq!(rt; ended, Status(0));
         let mut found = false;
         for choice in choices {
@@ -148,7 +198,7 @@ pattern = [
             text.extend_from_slice(cost)?;
             text.extend_from_slice(b"\nkind,from,to\n")?;
             text.extend_from_slice(choice)?;
-            found = found || printed.as_slice() == text.as_slice();
+            found = found || without_counts(printed.as_slice()) == text.as_slice();
         }
         assert!(rt; found);
     }
@@ -220,8 +270,7 @@ min = 2";
             library.extend_from_slice(b"[[pattern]]\n")?;
             library.extend_from_slice(further)?;
         }
-        let words = &["solve", "x.toml"];
-        let (ended, printed) = run_on(alloc, words, library.as_slice(), &[])?;
+        let (ended, printed) = run_on(alloc, SOLVE, library.as_slice(), &[])?;
         assert!(rt; printed.as_slice().starts_with(front));
         let due = if front.starts_with(b"status optimal") {
             Status(0)
@@ -289,7 +338,7 @@ link = [{from = \"a\", to = \"b\"}, {from = \"a\", to = \"b\"}]",
         ),
     ];
     let refused_as = |library: &[u8], fault: &[u8]| -> Result<bool, AllocError> {
-        let (ended, printed) = run_on(alloc, &["solve", "x.toml"], library, &[])?;
+        let (ended, printed) = run_on(alloc, SOLVE, library, &[])?;
         let mut line = b"refused library ".to_vec(alloc)?;
         line.extend_from_slice(fault)?;
         line.push(b'\n')?;
@@ -309,8 +358,7 @@ link = [{from = \"a\", to = \"b\"}, {from = \"a\", to = \"b\"}]",
 fn too_large_a_file_is_refused(rt: HostRuntime) -> Result<(), Fail> {
     for size in [1048577, 1048600] {
         let library = vec![in rt.alloc(); b'#'; size]?;
-        let words = &["solve", "x.toml"];
-        let (ended, printed) = run_on(rt.alloc(), words, library.as_slice(), &[])?;
+        let (ended, printed) = run_on(rt.alloc(), SOLVE, library.as_slice(), &[])?;
         assert_eq!(rt; ended, Status(3));
         assert_eq!(rt;
             printed.as_slice(),
@@ -321,17 +369,42 @@ fn too_large_a_file_is_refused(rt: HostRuntime) -> Result<(), Fail> {
 }
 
 // Words that are no command are refused, whatever the shelf has: for the command first, then for a
-// missing word, one past the last, then for the first word too many, then for the leftmost bad one.
+// missing word, one past the last, then for the first word too many, then for the leftmost bad one:
+// an empty one, a log that is the library, a number that has another text than its decimal or is out
+// of its range, or more analysts than workers.
 #[test]
 fn other_words_are_refused(rt: HostRuntime) -> Result<(), Fail> {
-    let rows: [(&[&str], &[u8]); 7] = [
+    let rows: [(&[&str], &[u8]); 24] = [
         (&[], b"refused words 1\n"),
-        (&["solve"], b"refused words 2\n"),
-        (&["solve", ""], b"refused words 2\n"),
-        (&["solve", "x.toml", "x.log"], b"refused words 3\n"),
-        (&["Solve", "x.toml"], b"refused words 1\n"),
-        (&["", "x.toml"], b"refused words 1\n"),
+        (&["Solve", "a", "b", "5", "1", "0"], b"refused words 1\n"),
+        (&["", "a", "b", "5", "1", "0"], b"refused words 1\n"),
         (&["--help"], b"refused words 1\n"),
+        (&["solve"], b"refused words 2\n"),
+        (&["solve", ""], b"refused words 3\n"),
+        (&["solve", "a", "b"], b"refused words 4\n"),
+        (&["solve", "a", "b", "5", "1"], b"refused words 6\n"),
+        (
+            &["solve", "", "b", "5", "1", "0", "0"],
+            b"refused words 7\n",
+        ),
+        (&["solve", "", "", "5", "1", "0"], b"refused words 2\n"),
+        (&["solve", "a", "", "x", "1", "0"], b"refused words 3\n"),
+        (&["solve", "a", "a", "5", "1", "0"], b"refused words 3\n"),
+        (
+            &["solve", "a", "b", "100001", "1", "0"],
+            b"refused words 4\n",
+        ),
+        (&["solve", "a", "b", "", "1", "0"], b"refused words 4\n"),
+        (&["solve", "a", "b", "05", "1", "0"], b"refused words 4\n"),
+        (&["solve", "a", "b", "+5", "1", "0"], b"refused words 4\n"),
+        (&["solve", "a", "b", "-5", "1", "0"], b"refused words 4\n"),
+        (&["solve", "a", "b", "5 ", "1", "0"], b"refused words 4\n"),
+        (&["solve", "a", "b", "5", "0", "0"], b"refused words 5\n"),
+        (&["solve", "a", "b", "5", "65", "0"], b"refused words 5\n"),
+        (&["solve", "a", "b", "5", "many", ""], b"refused words 5\n"),
+        (&["solve", "a", "b", "5", "2", "3"], b"refused words 6\n"),
+        (&["solve", "a", "b", "5", "2", "00"], b"refused words 6\n"),
+        (&["check", "a", "b"], b"refused words 1\n"),
     ];
     for (words, text) in rows {
         let (ended, printed) = run_on(rt.alloc(), words, X, &[])?;
@@ -341,24 +414,47 @@ fn other_words_are_refused(rt: HostRuntime) -> Result<(), Fail> {
     Ok(())
 }
 
-// Each call of the shelf failing in turn ends the run with a read fault and nothing printed, until
-// none is left to fail: two reads, of the bytes and of the end. A name that wasn't put is a fault
-// as well.
+// The greatest numbers that the words may have are taken, and more workers than one do the run of
+// one.
 #[test]
-fn each_failing_read_ends_the_run(rt: HostRuntime) -> Result<(), Fail> {
-    for call in 0..3 {
-        let (ended, printed) = run_on(rt.alloc(), &["solve", "x.toml"], X, &[call])?;
-        if call < 2 {
-            assert_eq!(rt; ended, Status(5));
-            assert_eq!(rt; printed.len(), 0);
-        } else {
-            assert_eq!(rt; ended, Status(0));
-            assert_eq!(rt; printed.as_slice(), X_REPORT);
-        }
+fn numbers_are_taken_up_to_their_limits(rt: HostRuntime) -> Result<(), Fail> {
+    let rows: [&[&str]; 4] = [
+        &["solve", "x.toml", "x.log", "0", "1", "1"],
+        &["solve", "x.toml", "x.log", "100000", "64", "64"],
+        &["solve", "x.toml", "x.log", "10", "10", "0"],
+        &["solve", "x.toml", "x.log", "99999", "2", "1"],
+    ];
+    for words in rows {
+        let (ended, printed) = run_on(rt.alloc(), words, X, &[])?;
+        assert_eq!(rt; ended, Status(0));
+        assert_eq!(rt; printed.as_slice(), X_REPORT);
     }
-    let (ended, printed) = run_on(rt.alloc(), &["solve", "y.toml"], X, &[])?;
-    assert_eq!(rt; ended, Status(5));
-    assert_eq!(rt; printed.len(), 0);
+    Ok(())
+}
+
+// Each call of the shelf failing in turn: two reads, of the bytes and of the end, which end the run
+// with a read fault; a fresh start of the log, and its one piece, which end it with a write fault.
+// Nothing is then printed. A name that wasn't put is a fault as well.
+#[test]
+fn each_failing_call_ends_the_run(rt: HostRuntime) -> Result<(), Fail> {
+    let ends = [Status(5), Status(5), Status(6), Status(6)];
+    for (call, end) in ends.iter().enumerate() {
+        let (ended, printed) = run_on(rt.alloc(), SOLVE, X, &[call as u64])?;
+        assert_eq!(rt; ended, *end);
+        assert_eq!(rt; printed.len(), 0);
+    }
+    let (ended, printed) = run_on(rt.alloc(), SOLVE, X, &[4])?;
+    assert_eq!(rt; ended, Status(0));
+    assert_eq!(rt; printed.as_slice(), X_REPORT);
+    let missing: [(&[&str], Status); 2] = [
+        (&["solve", "y.toml", "x.log", "0", "1", "0"], Status(5)),
+        (&["solve", "x.toml", "y.log", "0", "1", "0"], Status(6)),
+    ];
+    for (words, end) in missing {
+        let (ended, printed) = run_on(rt.alloc(), words, X, &[])?;
+        assert_eq!(rt; ended, end);
+        assert_eq!(rt; printed.len(), 0);
+    }
     Ok(())
 }
 
@@ -399,18 +495,22 @@ impl<O: Sink> Sink for Slow<O> {
     }
 }
 
-// Byte by byte the same is read and printed. Each write failing in turn leaves what was written
-// before it.
+// What stands under `x.log`, whatever a library's run left there.
+fn log_on<'a>(shelf: &'a MemShelf) -> &'a [u8] {
+    shelf.file("x.log").unwrap_or(b"")
+}
+
+// Byte by byte the same is read, logged and printed. Each write failing in turn leaves what was
+// written before it.
 #[test]
 fn each_failing_write_cuts_the_report(rt: HostRuntime) -> Result<(), Fail> {
     let alloc = rt.alloc();
-    let words = words_of(alloc, &["solve", "x.toml"])?;
+    let words = words_of(alloc, SOLVE_X)?;
     let whole = X_REPORT.len();
     for call in 0..=whole {
         let mut shelf = Slow {
-            inner: MemShelf::new(alloc, 0, &[])?,
+            inner: shelf_with(alloc, X, b"", &[])?,
         };
-        shelf.inner.put("x.toml", X)?;
         let mut sink = Slow {
             inner: MemSink::new(alloc, 4096, &[call as u64])?,
         };
@@ -418,6 +518,48 @@ fn each_failing_write_cuts_the_report(rt: HostRuntime) -> Result<(), Fail> {
         let wanted = if call < whole { Status(6) } else { Status(0) };
         assert_eq!(rt; status, wanted);
         assert_eq!(rt; sink.inner.bytes(), &X_REPORT[..call]);
+        assert_eq!(rt; log_on(&shelf.inner), X_LOG);
+    }
+    Ok(())
+}
+
+// What stands under the log's name after a run over X, where a longer text stood there before, with
+// one call failing.
+fn log_left(alloc: Global, failing: u64) -> Result<(Status, Vec<u8>), AllocError> {
+    let words = words_of(alloc, SOLVE_X)?;
+    let mut shelf = Slow {
+        inner: shelf_with(alloc, X, OLD_LOG, &[failing])?,
+    };
+    let mut sink = MemSink::new(alloc, 4096, &[])?;
+    let status = run_plain(alloc, words.as_slice(), &mut shelf, &mut sink);
+    let log = log_on(&shelf.inner).to_vec(alloc)?;
+    Ok((status, log))
+}
+
+// Longer than the log of X.
+const OLD_LOG: &[u8] = b"This is no log of a search.
+It is what stood there before, and it has more bytes than the log that takes its place:
+a run that comes to an answer leaves none of them, and one whose log can't be begun leaves all.
+";
+
+// The log of X to the letter, which replaces what stood there; and with each of its writes failing,
+// what stood there, or its front.
+#[test]
+fn the_log_is_written_whole(rt: HostRuntime) -> Result<(), Fail> {
+    let alloc = rt.alloc();
+    let reads = X.len() as u64 + 1;
+    let (ended, log) = log_left(alloc, reads)?;
+    assert_eq!(rt; ended, Status(6));
+    assert_eq!(rt; log.as_slice(), OLD_LOG);
+    for done in 0..=X_LOG.len() {
+        let (ended, log) = log_left(alloc, reads + 1 + done as u64)?;
+        let wanted = if done < X_LOG.len() {
+            Status(6)
+        } else {
+            Status(0)
+        };
+        assert_eq!(rt; ended, wanted);
+        assert_eq!(rt; log.as_slice(), &X_LOG[..done]);
     }
     Ok(())
 }
@@ -427,7 +569,7 @@ fn nothing_fails_where_nothing_can(rt: HostRuntime) -> Result<(), Fail> {
     let alloc = rt.alloc();
     let mut shelf = SureShelf::new(alloc);
     shelf.put("x.toml", X)?;
-    let words = words_of(alloc, &["solve", "x.toml"])?;
+    let words = words_of(alloc, SOLVE)?;
     let status = run_surely(alloc, words.as_slice(), &mut shelf, &mut SureSink);
     assert_eq!(rt; status, Status(0));
     let status = run_surely(alloc, &[], &mut shelf, &mut SureSink);

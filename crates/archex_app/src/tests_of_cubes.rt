@@ -1,18 +1,14 @@
 // Cubes of small libraries: what rows force there, and which bounds hold.
-ghost use Rattle.std.specs.Prelude.{◌≡◌, [], IsSome};
+ghost use Rattle.std.specs.Prelude.{◌≡◌, []};
 ghost use Rattle.rows.specs.Known.{parts_of, IsKnown};
-ghost use Rattle.rows.specs.Reason.{AllThere};
 
+use arch_model::VarId;
 use arch_model::limits::MEMBERS;
-use arch_model::{MemberSet, Memory, VarId};
 use binary_program::problem_of;
 use lib_read::read_library;
 use propagate::{Closed, close};
-use row_bounds::{Ascent, Bounded, ascend, branching_variable, lift};
-use rows::{
-    Cube, CutList, Known, Problem, RowRef, Trace, member_cost, pairs_together, variable_count,
-};
-use std::alloc::Global;
+use row_bounds::{Bounded, ascend, branching_variable, lift};
+use rows::{Cube, CutList, Known, Problem, RowRef, Trace, variable_count};
 use std::process::Abort;
 use std::test::Fail;
 
@@ -69,49 +65,6 @@ link = [{from = \"s\", to = \"t\"}]
 pattern = [{kind = \"indegree\", type = \"t\", from = \"s\", min = 1}]
 ";
 
-// The same, with the sink asked for.
-const FED: &[u8] = b"type = [
-  {name = \"s\", role = \"source\", max = 2, cost = 10},
-  {name = \"t\", role = \"sink\"},
-]
-link = [{from = \"s\", to = \"t\"}]
-pattern = [
-  {kind = \"indegree\", type = \"t\", from = \"s\", min = 1},
-  {kind = \"count\", type = \"t\", min = 1},
-]
-";
-
-// A data hall as the README's, but that a pattern asks for both UPS units at each rack, since no bound
-// on weights is looked at here: the first architecture that is found is the cheapest.
-const HALL_ON_BOTH_UPS: &[u8] = b"type = [
-  {name = \"feed_a\", role = \"source\", cost = 40, supply = 80, fail = 700},
-  {name = \"feed_b\", role = \"source\", cost = 40, supply = 80, fail = 700},
-  {name = \"diesel\", role = \"source\", cost = 65, supply = 100, fail = 20000},
-  {name = \"ups\", role = \"middle\", max = 2, cost = 30, fail = 150},
-  {name = \"rack\", role = \"sink\", max = 2, cost = 5, demand = 60},
-]
-link = [
-  {from = \"feed_a\", to = \"ups\", cost = 3},
-  {from = \"feed_b\", to = \"ups\", cost = 3},
-  {from = \"diesel\", to = \"ups\", cost = 7},
-  {from = \"ups\", to = \"rack\", cost = 2},
-]
-pattern = [
-  {kind = \"count\", type = \"rack\", min = 2},
-  {kind = \"indegree\", type = \"rack\", from = \"ups\", min = 2},
-  {kind = \"indegree\", type = \"ups\", from = \"diesel\", min = 1},
-  {kind = \"exclusive\", type = \"ups\", a = \"feed_a\", b = \"feed_b\"},
-  {kind = \"in_needs_out\", type = \"ups\", from = \"diesel\", to = \"rack\"},
-  {kind = \"implies\", a = \"feed_a\", b = \"diesel\"},
-  {kind = \"forbid\", from = \"feed_a.1\", to = \"ups.2\"},
-  {kind = \"local_supply\", type = \"ups\"},
-]
-require = [
-  {sink = \"rack.1\", bound = 20000000000000},
-  {sink = \"rack.2\", bound = 20000000000000},
-]
-";
-
 // The problem of a library's text.
 fn problem(rt: &(impl Abort + AllocGlobal), text: &[u8]) -> Result<Problem, Fail> {
     Ok(problem_of(rt.alloc(), read_library(rt.alloc(), text)?)?)
@@ -161,117 +114,6 @@ fn closed(
     let n = variable_count(known.problem.library());
     assert!(rt; cube.fixed().is_below(n as usize));
     Ok(parts(close(rt.alloc(), known, cube)?))
-}
-
-// What the members that a cube fixes to 1 cost.
-fn cost_of(problem: &Problem, cube: &Cube) -> u64 {
-    let lib = problem.library();
-    let ones = cube.ones();
-    let mut cost: u64 = 0;
-    for i in 0..variable_count(lib) {
-        if ones.has(VarId(i)) {
-            cost = cost.saturating_add(member_cost(lib, VarId(i)));
-        }
-    }
-    cost
-}
-
-// The variables of whose cost an ascent leaves nothing.
-fn spent_by(ascent: &Ascent) -> MemberSet {
-    let mut spent = MemberSet::new();
-    for i in 0..MEMBERS as u32 {
-        if ascent.residue(VarId(i)) == 0 {
-            spent.put(VarId(i));
-        }
-    }
-    spent
-}
-
-// Whether an ascent's own rows refute a cube together.
-fn refutes(known: &Known, ascent: &Ascent, cube: &Cube) -> bool
-    requires { IsSome known.now.bound → AllThere (parts_of known.now) ascent.now.pairs }
-{
-    known.bound.is_some() && pairs_together(known, ascent.pairs(), cube)
-}
-
-// The variable to branch on in a quiet cube, or none where bounds drop it: the stronger ones, or the
-// ascent alone.
-fn branching(
-    alloc: Global,
-    known: &Known,
-    cube: &Cube,
-    stronger: bool,
-) -> Result<Option<VarId>, Memory>
-    requires { IsKnown (parts_of known.now) }
-{
-    let ascent = ascend(known, cube);
-    if stronger {
-        return match ascent.settle(alloc, known, cube)? {
-            Bounded::Refuted(_reason) => Ok(None),
-            Bounded::Open(spent) => Ok(branching_variable(known, cube, &spent)),
-        };
-    }
-    if refutes(known, &ascent, cube) {
-        return Ok(None);
-    }
-    Ok(branching_variable(known, cube, &spent_by(&ascent)))
-}
-
-// A cube with one more variable fixed.
-fn with(rt: &impl Abort, cube: &Cube, v: VarId, value: bool) -> Cube {
-    let mut cube = *cube;
-    fix(rt, &mut cube, v.0, value);
-    cube
-}
-
-// How many cubes a search looks at that takes each full cube, in a network none of whose candidates
-// weighs too much.
-fn looked_at(
-    rt: &(impl Abort + AllocGlobal),
-    problem: &Problem,
-    stronger: bool,
-) -> Result<u32, Fail> {
-    let alloc = rt.alloc();
-    let cuts = CutList::new(alloc);
-    let mut open = Vec::new(alloc);
-    open.push(Cube::whole())?;
-    let mut bound = None;
-    for count in 0..1000 {
-        let Some(cube) = open.pop() else {
-            return Ok(count);
-        };
-        let known = known(problem, &cuts, bound);
-        let n = variable_count(known.problem.library());
-        assert!(rt; cube.fixed().is_below(n as usize));
-        match close(alloc, &known, cube)? {
-            Closed::Refuted { .. } => {}
-            Closed::Full { cube, .. } => bound = Some(cost_of(problem, &cube)),
-            Closed::Quiet { cube, .. } => {
-                if let Some(v) = branching(alloc, &known, &cube, stronger)? {
-                    open.push(with(rt, &cube, v, true))?;
-                    open.push(with(rt, &cube, v, false))?;
-                }
-            }
-        }
-    }
-    Ok(1000)
-}
-
-// How many cubes a search looks at with the ascent alone, and with the stronger bounds. These say that
-// an edge which costs nothing wants its source, so that it is branched on first.
-#[test]
-fn bounds_save_cubes(rt: HostRuntime) -> Result<(), Fail> {
-    let cases: [(&[u8], u32, u32); 3] = [
-        (HALL_ON_BOTH_UPS, 3, 3),
-        (TWELVE_PAIRS, 25, 25),
-        (FED, 5, 3),
-    ];
-    for (library, ascent, stronger) in cases {
-        let problem = problem(&rt, library)?;
-        assert_eq!(rt; looked_at(&rt, &problem, false)?, ascent);
-        assert_eq!(rt; looked_at(&rt, &problem, true)?, stronger);
-    }
-    Ok(())
 }
 
 // Rows that force one after another, in several passes where they stand in the worse order; a cost

@@ -1,24 +1,36 @@
-use Rattle.archex_app.proofs.Headline.{run_of_words, optimal, none_meets, refused_library, read_rose, cut, completes, refused_first, refused, may_end, read_among, write_rose, prints_nothing, reads_stay, writes_stay, prints_stay}
+use Rattle.archex_app.proofs.Headline.{run_of_words, optimal, none_meets, limit_met, refused_library, read_rose, cut, searched, leaves_log, completes, enough, refused_first, refused, may_end, read_among, write_rose, prints_nothing, reads_stay, writes_stay, prints_stay}
 use Rattle.archex_app.proofs.MassHeadline as mass
 use Rattle.archex_app.proofs.run.run_plain.Goals as goal
 
 pub returns-clause-optimal : goal.returns-clause-optimal
-returns-clause-optimal g c name asked is = optimal name _ _ _ (run_of_words _ _ _ _ _ asked c.run_command.ensures.run) is
+returns-clause-optimal g c ask asked is = optimal ask _ _ _ (run_of_words _ _ _ _ _ asked c.run_command.ensures.run) is
 
 pub returns-clause-infeasible : goal.returns-clause-infeasible
-returns-clause-infeasible g c name asked is = none_meets name _ _ _ (run_of_words _ _ _ _ _ asked c.run_command.ensures.run) is
+returns-clause-infeasible g c ask asked is = none_meets ask _ _ _ (run_of_words _ _ _ _ _ asked c.run_command.ensures.run) is
+
+pub returns-clause-limit_met : goal.returns-clause-limit_met
+returns-clause-limit_met g c ask asked is = limit_met ask _ _ _ (run_of_words _ _ _ _ _ asked c.run_command.ensures.run) is
 
 pub returns-clause-refused_library : goal.returns-clause-refused_library
-returns-clause-refused_library g c name asked is = refused_library name _ _ _ (run_of_words _ _ _ _ _ asked c.run_command.ensures.run) is
+returns-clause-refused_library g c ask asked is = refused_library ask _ _ _ (run_of_words _ _ _ _ _ asked c.run_command.ensures.run) is
 
 pub returns-clause-read_fault : goal.returns-clause-read_fault
-returns-clause-read_fault g c name asked is = read_rose name _ _ _ (run_of_words _ _ _ _ _ asked c.run_command.ensures.run) is
+returns-clause-read_fault g c ask asked is = read_rose ask _ _ _ (run_of_words _ _ _ _ _ asked c.run_command.ensures.run) is
 
 pub returns-clause-cut : goal.returns-clause-cut
-returns-clause-cut g c name asked is = cut name _ _ _ (run_of_words _ _ _ _ _ asked c.run_command.ensures.run) is
+returns-clause-cut g c ask asked is = cut ask _ _ _ (run_of_words _ _ _ _ _ asked c.run_command.ensures.run) is
+
+pub returns-clause-searched : goal.returns-clause-searched
+returns-clause-searched g c ask asked is = searched ask _ _ _ (run_of_words _ _ _ _ _ asked c.run_command.ensures.run) is
+
+pub returns-clause-stopped : goal.returns-clause-stopped
+returns-clause-stopped g c ask asked is = leaves_log ask _ _ _ (run_of_words _ _ _ _ _ asked c.run_command.ensures.run) is
 
 pub returns-clause-complete : goal.returns-clause-complete
-returns-clause-complete g c name bytes asked tells reads prints = completes name bytes _ _ _ (run_of_words _ _ _ _ _ asked c.run_command.ensures.run) tells reads prints
+returns-clause-complete g c ask bytes asked tells reads writes prints = completes ask bytes _ _ _ (run_of_words _ _ _ _ _ asked c.run_command.ensures.run) tells reads writes prints
+
+pub returns-clause-enough : goal.returns-clause-enough
+returns-clause-enough g c ask bytes lib asked tells read far is = enough ask bytes lib _ _ _ (run_of_words _ _ _ _ _ asked c.run_command.ensures.run) tells read far is
 
 pub returns-clause-words_first : goal.returns-clause-words_first
 returns-clause-words_first g c err = refused_first _ _ _ _ c.run_command.ensures.run err

@@ -1,0 +1,119 @@
+// Searches that their limit of branchings ends, and how many branchings searches take.
+use crate::Status;
+use crate::tests::{SOLVE, run_on};
+use std::alloc::{AllocError, Global};
+use std::test::Fail;
+
+// Two generators, two buses and a load that a chain of one each is enough for.
+const ONE_CHAIN: &[u8] = b"type = [
+  {name = \"gen\", role = \"source\", max = 2, cost = 100, fail = 1000},
+  {name = \"bus\", role = \"middle\", max = 2, cost = 20, fail = 100},
+  {name = \"load\", role = \"sink\"},
+]
+link = [
+  {from = \"gen\", to = \"bus\", cost = 5},
+  {from = \"bus\", to = \"load\", cost = 5},
+]
+require = [{sink = \"load.1\", bound = 1100000000000000}]
+";
+
+// Twelve pairs of components of cost 10, of which one each has to be present.
+const TWELVE_PAIRS: &[u8] = b"type = [
+  {name = \"a\", role = \"source\", max = 2, cost = 10}, {name = \"b\", role = \"source\", max = 2, cost = 10},
+  {name = \"c\", role = \"source\", max = 2, cost = 10}, {name = \"d\", role = \"source\", max = 2, cost = 10},
+  {name = \"e\", role = \"source\", max = 2, cost = 10}, {name = \"f\", role = \"source\", max = 2, cost = 10},
+  {name = \"g\", role = \"source\", max = 2, cost = 10}, {name = \"h\", role = \"source\", max = 2, cost = 10},
+  {name = \"i\", role = \"source\", max = 2, cost = 10}, {name = \"j\", role = \"source\", max = 2, cost = 10},
+  {name = \"k\", role = \"source\", max = 2, cost = 10}, {name = \"l\", role = \"source\", max = 2, cost = 10},
+]
+pattern = [
+  {kind = \"count\", type = \"a\", min = 1}, {kind = \"count\", type = \"b\", min = 1},
+  {kind = \"count\", type = \"c\", min = 1}, {kind = \"count\", type = \"d\", min = 1},
+  {kind = \"count\", type = \"e\", min = 1}, {kind = \"count\", type = \"f\", min = 1},
+  {kind = \"count\", type = \"g\", min = 1}, {kind = \"count\", type = \"h\", min = 1},
+  {kind = \"count\", type = \"i\", min = 1}, {kind = \"count\", type = \"j\", min = 1},
+  {kind = \"count\", type = \"k\", min = 1}, {kind = \"count\", type = \"l\", min = 1},
+]
+";
+
+// Two sources of cost 10, and a sink that is asked for and needs a free edge from one of them.
+const FED: &[u8] = b"type = [
+  {name = \"s\", role = \"source\", max = 2, cost = 10},
+  {name = \"t\", role = \"sink\"},
+]
+link = [{from = \"s\", to = \"t\"}]
+pattern = [
+  {kind = \"indegree\", type = \"t\", from = \"s\", min = 1},
+  {kind = \"count\", type = \"t\", min = 1},
+]
+";
+
+// A data hall as the README's, but that a pattern asks for both UPS units at each rack: the first
+// architecture that is found is the cheapest.
+const HALL_ON_BOTH_UPS: &[u8] = b"type = [
+  {name = \"feed_a\", role = \"source\", cost = 40, supply = 80, fail = 700},
+  {name = \"feed_b\", role = \"source\", cost = 40, supply = 80, fail = 700},
+  {name = \"diesel\", role = \"source\", cost = 65, supply = 100, fail = 20000},
+  {name = \"ups\", role = \"middle\", max = 2, cost = 30, fail = 150},
+  {name = \"rack\", role = \"sink\", max = 2, cost = 5, demand = 60},
+]
+link = [
+  {from = \"feed_a\", to = \"ups\", cost = 3},
+  {from = \"feed_b\", to = \"ups\", cost = 3},
+  {from = \"diesel\", to = \"ups\", cost = 7},
+  {from = \"ups\", to = \"rack\", cost = 2},
+]
+pattern = [
+  {kind = \"count\", type = \"rack\", min = 2},
+  {kind = \"indegree\", type = \"rack\", from = \"ups\", min = 2},
+  {kind = \"indegree\", type = \"ups\", from = \"diesel\", min = 1},
+  {kind = \"exclusive\", type = \"ups\", a = \"feed_a\", b = \"feed_b\"},
+  {kind = \"in_needs_out\", type = \"ups\", from = \"diesel\", to = \"rack\"},
+  {kind = \"implies\", a = \"feed_a\", b = \"diesel\"},
+  {kind = \"forbid\", from = \"feed_a.1\", to = \"ups.2\"},
+  {kind = \"local_supply\", type = \"ups\"},
+]
+require = [
+  {sink = \"rack.1\", bound = 20000000000000},
+  {sink = \"rack.2\", bound = 20000000000000},
+]
+";
+
+// Twelve pairs are bought with twelve branchings: every node that is still open after the first
+// candidate is pruned. The others are those that docs/MAP.md tells of.
+#[test]
+fn bounds_save_branchings(rt: HostRuntime) -> Result<(), Fail> {
+    let limited = &["solve", "x.toml", "x.log", "200", "1", "0"];
+    let rows: [(&[u8], &[u8], &[u8]); 3] = [
+        (
+            TWELVE_PAIRS,
+            b"status optimal\ncost 120\n",
+            b"branchings 12\ncuts 0\n",
+        ),
+        (FED, b"status optimal\ncost 10\n", b"branchings 1\ncuts 0\n"),
+        (
+            HALL_ON_BOTH_UPS,
+            b"status optimal\n",
+            b"branchings 1\ncuts 0\n",
+        ),
+    ];
+    for (library, front, end) in rows {
+        let (ended, printed) = run_on(rt.alloc(), limited, library, &[])?;
+        assert_eq!(rt; ended, Status(0));
+        assert!(rt; printed.as_slice().starts_with(front));
+        assert!(rt; printed.as_slice().ends_with(end));
+    }
+    Ok(())
+}
+
+// Where the limit of branchings is spent before the search is over, the report has the best until
+// then, or says that there is none.
+#[test]
+fn a_limit_ends_the_search(rt: HostRuntime) -> Result<(), Fail> {
+    let none = b"status nodelimit\nincumbent none\nbranchings 0\ncuts 0\n";
+    let words = &["solve", "x.toml", "x.log", "0", "1", "0"];
+    let (ended, printed) = run_on(rt.alloc(), words, ONE_CHAIN, &[])?;
+    assert_eq!(rt; ended, Status(2));
+    assert_eq!(rt; printed.as_slice(), none.as_slice());
+    Ok(())
+}
