@@ -1,6 +1,9 @@
 pub mod Pieces
 pub mod LogLaws
+pub mod ReportLaws
 pub mod SearchAnswers
+pub mod WritingRuns
+pub mod SearchRuns
 pub mod StandIn
 pub mod WordLaws
 pub mod NumeralLaws
@@ -8,6 +11,7 @@ pub mod Within
 pub mod RunLaws
 pub mod SinkLaws
 pub mod Coming
+pub mod AllRuns
 pub mod Headline
 pub mod MassHeadline
 pub mod KeyLaws

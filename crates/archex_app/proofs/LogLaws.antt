@@ -1,7 +1,8 @@
 -- A text appended to a file, piece by piece.
-use Rattle.std.proofs.Common.{◌≡◌, ◌≢◌, ℕ, ◌+◌, ◌-◌, ◌<◌, ◌≤◌, Option, Some, None, List, [], ◌∷◌, ◌++◌, take, drop, length, refl, sym, ap, subst, ◌∙◌, append_assoc, append-nil, IfSome, inl, inr, ◌⊎◌}
+use Rattle.std.proofs.Common.{◌≡◌, ◌≢◌, ℕ, ◌+◌, ◌-◌, ◌<◌, ◌≤◌, Option, Some, None, List, [], ◌∷◌, ◌++◌, take, drop, length, get_or, refl, sym, ap, subst, ◌∙◌, append_assoc, append-nil, IfSome, inl, inr, ◌⊎◌}
 use Rattle.std.specs.List.{flat_map}
-use Rattle.std.proofs.lemmas.List.{take-append-drop}
+use Rattle.std.proofs.lemmas.List.{take-append-drop, take_more, take_all}
+use Rattle.std.proofs.lemmas.Grind.{flat_map-append}
 use Rattle.rows.specs.Parts.{ProblemParts}
 use Rattle.search_core.specs.declared.entry.Entry.{Entry}
 use Rattle.search_core.specs.declared.answer.Answer.{Answer}
@@ -42,6 +43,71 @@ appended_whole before mid now text left first all = subst (λ (t : List ℕ). Ap
 -- the first of a text was appended, and then a call failed
 pub appended_cut : (before mid now : Option (List ℕ)) (text : List ℕ) (n : ℕ) → Appends before mid (take n text) → Appends mid now [] → IsAppendedSome before now text
 appended_cut before mid now text n first none = (drop n text, record { done = take n text; parts = sym (take-append-drop n text); appended = appends_no_more before mid now (take n text) first none })
+
+-- what was said of a text holds of the same text
+pub same_text : (before now : Option (List ℕ)) (text other left : List ℕ) → text ≡ other → IsAppended before now text left → IsAppended before now other left
+same_text before now text other left same is = subst (λ (t : List ℕ). IsAppended before now t left) same is
+
+pub some_same : (before now : Option (List ℕ)) (text other : List ℕ) → text ≡ other → IsAppendedSome before now text → IsAppendedSome before now other
+some_same before now text other same is = subst (λ (t : List ℕ). IsAppendedSome before now t) same is
+
+-- the lines of entries, one by one
+pub no_lines : (told : Option (List ℕ)) (text : List ℕ) → IsAppended told told (text ++ []) text
+no_lines told text = same_text told told text (text ++ []) text (sym (append-nil text)) (appended_none told text)
+
+one_line : (entry : Entry) → entry_lines (entry ∷ []) ≡ ended (entry_text entry)
+one_line entry = append-nil (ended (entry_text entry))
+
+more_lines : (entries : List Entry) (i : ℕ) (entry d : Entry) → i < length entries → entry ≡ get_or entries i d → entry_lines (take (i + 1) entries) ≡ entry_lines (take i entries) ++ ended (entry_text entry)
+more_lines entries i entry d here is =
+    ap entry_lines (take_more entries i d here)
+    ∙ flat_map-append (λ e. ended (entry_text e)) (take i entries) (get_or entries i d ∷ [])
+    ∙ ap (λ l. entry_lines (take i entries) ++ l) (one_line (get_or entries i d) ∙ ap (λ e. ended (entry_text e)) (sym is))
+
+-- one more line by way of the buffer
+pub line_appended : (before mid now : Option (List ℕ)) (old buffer rest : List ℕ) (entries : List Entry) (i : ℕ) (entry d : Entry) → i < length entries → entry ≡ get_or entries i d → IsAppended before mid (old ++ entry_lines (take i entries)) buffer
+    → IsAppended mid now (buffer ++ ended (entry_text entry)) rest → IsAppended before now (old ++ entry_lines (take (i + 1) entries)) rest
+line_appended before mid now old buffer rest entries i entry d here is first second =
+    let line = ended (entry_text entry) in
+    same_text before now ((old ++ entry_lines (take i entries)) ++ line) (old ++ entry_lines (take (i + 1) entries)) rest (append_assoc old (entry_lines (take i entries)) line ∙ ap (λ l. old ++ l) (sym (more_lines entries i entry d here is)))
+    (appended_then before mid now ((old ++ entry_lines (take i entries)) ++ line) (buffer ++ line) rest (appended_more before mid (old ++ entry_lines (take i entries)) buffer line first) second)
+
+-- and one that failed
+all_lines : (entries : List Entry) (i : ℕ) → entry_lines (take i entries) ++ entry_lines (drop i entries) ≡ entry_lines entries
+all_lines entries i = sym (flat_map-append (λ e. ended (entry_text e)) (take i entries) (drop i entries)) ∙ ap entry_lines (take-append-drop i entries)
+
+pub line_cut : (before mid now : Option (List ℕ)) (old buffer : List ℕ) (entries : List Entry) (i : ℕ) (entry d : Entry) → i < length entries → entry ≡ get_or entries i d → IsAppended before mid (old ++ entry_lines (take i entries)) buffer
+    → IsAppendedSome mid now (buffer ++ ended (entry_text entry)) → IsAppendedSome before now (old ++ entry_lines entries)
+line_cut before mid now old buffer entries i entry d here is first second =
+    let so_far = line_appended before mid now old buffer second.0 entries i entry d here is first second.1 in
+    let rest = entry_lines (drop (i + 1) entries) in (
+      second.0 ++ rest,
+      same_text before now ((old ++ entry_lines (take (i + 1) entries)) ++ rest) (old ++ entry_lines entries) (second.0 ++ rest) (append_assoc old (entry_lines (take (i + 1) entries)) rest ∙ ap (λ l. old ++ l) (all_lines entries (i + 1)))
+          (appended_more before now (old ++ entry_lines (take (i + 1) entries)) second.0 rest so_far),
+    )
+
+pub lines_appended : (before now : Option (List ℕ)) (old buffer : List ℕ) (entries : List Entry) (i : ℕ) → length entries ≤ i → IsAppended before now (old ++ entry_lines (take i entries)) buffer → IsAppended before now (old ++ entry_lines entries) buffer
+lines_appended before now old buffer entries i past is = same_text before now (old ++ entry_lines (take i entries)) (old ++ entry_lines entries) buffer (ap (λ (es : List Entry). old ++ entry_lines es) (take_all i entries past)) is
+
+-- the entries, and then the closing line
+pub lines_cut : (before now : Option (List ℕ)) (old lines last : List ℕ) → IsAppendedSome before now (old ++ lines) → IsAppendedSome before now (old ++ (lines ++ last))
+lines_cut before now old lines last some = (some.0 ++ last, same_text before now ((old ++ lines) ++ last) (old ++ (lines ++ last)) (some.0 ++ last) (append_assoc old lines last) (appended_more before now (old ++ lines) some.0 last some.1))
+
+pub lines_left : (before now : Option (List ℕ)) (old lines last buffer : List ℕ) → IsAppended before now (old ++ lines) buffer → IsAppendedSome before now (old ++ (lines ++ last))
+lines_left before now old lines last buffer is = lines_cut before now old lines last (buffer, is)
+
+pub last_cut : (before mid now : Option (List ℕ)) (old lines last buffer text : List ℕ) → IsAppended before mid (old ++ lines) buffer → text ≡ buffer ++ last → IsAppendedSome mid now text → IsAppendedSome before now (old ++ (lines ++ last))
+last_cut before mid now old lines last buffer text first is some =
+    let part : IsAppendedSome mid now (buffer ++ last) = some_same mid now text (buffer ++ last) is some in (
+      part.0,
+      same_text before now ((old ++ lines) ++ last) (old ++ (lines ++ last)) part.0 (append_assoc old lines last) (appended_then before mid now ((old ++ lines) ++ last) (buffer ++ last) part.0 (appended_more before mid (old ++ lines) buffer last first) part.1),
+    )
+
+pub last_whole : (before mid now : Option (List ℕ)) (old lines last buffer text : List ℕ) → IsAppended before mid (old ++ lines) buffer → text ≡ buffer ++ last → Appends mid now text → Appends before now (old ++ (lines ++ last))
+last_whole before mid now old lines last buffer text first is all =
+    let P : List ℕ → Type 0 = Appends mid now in
+    let Q : List ℕ → Type 0 = Appends before now in
+    subst Q (append_assoc old lines last) (appended_whole before mid now ((old ++ lines) ++ last) (buffer ++ last) (appended_more before mid (old ++ lines) buffer last first) (subst P is all))
 
 -- after a fresh start the file holds what was appended
 none_some : (x : List ℕ) → None ≡ Some x → ⊥

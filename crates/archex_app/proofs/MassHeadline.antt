@@ -20,7 +20,7 @@ use Rattle.archex_app.specs.ComesTo.{ComesTo, MassComesTo, ReadsAs, EndsWith}
 use Rattle.archex_app.specs.Run.{Seen, EndsAsDue, RoseAmong, Runs}
 use Rattle.archex_app.proofs.RunLaws.{apart}
 use Rattle.archex_app.proofs.Within.{same_ending, same_text, no_read, either_name}
-use Rattle.archex_app.proofs.Headline.{as_due, read_among, write_rose, nothing_among}
+use Rattle.archex_app.proofs.AllRuns.{as_due, read_among, write_rose, nothing_among}
 
 -- what `probability` ends as, once both files were read
 abbrev MassShows : List ℕ → Ending → List ℕ → List ℕ → List ℕ → Type 0

@@ -1,5 +1,5 @@
 -- A file read, and a text printed, piece by piece.
-use Rattle.std.proofs.Common.{◌≡◌, ℕ, ◌+◌, ◌-◌, ◌≤◌, Option, Some, None, List, [], ◌++◌, take, drop, length, sym, ap, subst, ◌∙◌, arith, append_assoc, IfSome, OnErr, Result, Ok, Err, append-nil, length-drop, length-append}
+use Rattle.std.proofs.Common.{◌≡◌, ℕ, ◌+◌, ◌-◌, ◌≤◌, Option, Some, None, List, [], ◌++◌, take, drop, length, sym, ap, subst, ◌∙◌, arith, append_assoc, IfSome, OnOk, OnErr, Result, Ok, Err, append-nil, length-drop, length-append}
 use Rattle.std.proofs.Math.Seq.{take-add}
 use Rattle.std.proofs.lemmas.List.{take_all, length-take-le}
 use Rattle.outside.specs.Told.{Finds, Appends}
@@ -56,6 +56,14 @@ appends_no_more before mid now p first second = let P : List ℕ → Type 0 = Ap
 pub on_err_holds : {T E P : Type 0} (r : Result T E) → P → OnErr r P
 on_err_holds (Ok x) p = tt
 on_err_holds (Err e) p = p
+
+pub on_ok_map : {T E P Q : Type 0} (r : Result T E) → (P → Q) → OnOk r P → OnOk r Q
+on_ok_map (Ok x) f p = f p
+on_ok_map (Err e) f p = tt
+
+pub on_err_map : {T E P Q : Type 0} (r : Result T E) → (P → Q) → OnErr r P → OnErr r Q
+on_err_map (Ok x) f p = tt
+on_err_map (Err e) f p = f p
 
 -- the rest of a text, as a slice to its end
 pub rest_is : (n : ℕ) (text : List ℕ) → take (length text - n) (drop n text) ≡ drop n text

@@ -1,11 +1,12 @@
 -- What a search of a library says of its architectures and of its cuts.
-use Rattle.std.proofs.Common.{◌≡◌, ℕ, ◌+◌, ◌^◌, ◌<◌, ◌≤◌, List, [], ◌∷◌, ◌++◌, filter, length, Option, Some, None, Ok, IfSome, refl, sym, ap, subst, ◌∙◌, arith}
+use Rattle.std.proofs.Common.{◌≡◌, ℕ, false, ◌+◌, ◌^◌, ◌<◌, ◌≤◌, List, [], ◌∷◌, ◌++◌, filter, length, Option, Some, None, Ok, IfSome, refl, sym, ap, subst, ◌∙◌, arith}
 use Rattle.std.specs.Option.{IsSomeAnd}
 use Rattle.std.specs.List.{All, AllByRecursion}
 use Rattle.std.proofs.lemmas.List.Elements.{recursion_from_All}
 use Rattle.arch_model.specs.Parts.{LibraryParts, ArchitectureParts}
 use Rattle.arch_model.specs.Member.{member_count}
 use Rattle.arch_model.specs.Admissible.{IsAdmissible}
+use Rattle.arch_model.specs.Architecture.{cost_of}
 use Rattle.lib_read.specs.LibraryOf.{library_of}
 use Rattle.redundancy_cut.specs.declared.cut.Cut.{Cut}
 use Rattle.redundancy_cut.specs.CutRow.{cut_row_of}
@@ -17,7 +18,7 @@ use Rattle.search_core.specs.declared.answer.Answer.TheVariants.{Optimal, Infeas
 use Rattle.search_core.specs.State.{SearchState, start_of}
 use Rattle.search_core.specs.Candidate.{candidate_of}
 use Rattle.search_core.specs.Step.{IsStudied, Step, Publishes}
-use Rattle.search_core.specs.History.{Steps, Reaches, is_branch}
+use Rattle.search_core.specs.History.{Steps, Reaches, is_branch, is_reopen}
 use Rattle.search_core.specs.Invariant.{SearchInvariant, IsAdmissibleBest, HoldsInAll}
 use Rattle.search_core.specs.Solved.{IsLeastBest, NoneAdmissible, IsAtLimit}
 use Rattle.search_core.proofs.CutRows.{right_cuts}
@@ -45,7 +46,7 @@ module _ (lib : LibraryParts) (limit analysts : ℕ) (entries : List Entry) (sta
   best_of cost (Some found) is = (found, refl, is)
 
   cheapest_by : (cost : ℕ) (found : Best) → IsLeastBest lib cost found → IsCheapest lib found.architecture
-  cheapest_by cost found is = record { admissible = is.admissible; least = λ other can. subst (λ (n : ℕ). n ≤ _) (sym is.costs) (is.none_less other can) }
+  cheapest_by cost found is = record { admissible = is.admissible; least = λ other can. subst (λ (n : ℕ). n ≤ cost_of lib other) (sym is.costs) (is.none_less other can) }
 
   pub optimal_shows : (cost : ℕ) (bytes : List ℕ) → library_of bytes ≡ Ok lib → IsSearch lib limit analysts entries state (Optimal cost) → ShowsCheapest bytes (search_report lib state (Optimal cost))
   optimal_shows cost bytes read is =
@@ -84,7 +85,7 @@ module _ (lib : LibraryParts) (limit analysts : ℕ) (entries : List Entry) (sta
   best_admissible (Some found) is = is.admissible
 
   limit_is : (answer : Answer) → IsSearch lib limit analysts entries state answer → state.limit ≡ limit
-  limit_is answer is = limit_stays (base_problem lib) entries (start_of limit) state (recursion_from_All is.no_reopen) is.legal.steps
+  limit_is answer is = limit_stays (base_problem lib) entries (start_of limit) state (recursion_from_All (λ entry. is_reopen entry ≡ false) entries is.no_reopen) is.legal.steps
 
   spent : (incumbent : Option ℕ) → IsSearch lib limit analysts entries state (NodeLimit incumbent) → IsAtLimit state
   spent incumbent is = (limit_is_spent (base_problem lib) state (invariant (NodeLimit incumbent) is) incumbent is.answers).0
@@ -99,6 +100,9 @@ module _ (lib : LibraryParts) (limit analysts : ℕ) (entries : List Entry) (sta
     report = ap (λ n. report_text lib (NodeLimit incumbent) state.best n (length state.cuts)) ((spent incumbent is).spent ∙ limit_is (NodeLimit incumbent) is);
   }
 
+  all_made : (branchings top made : ℕ) → branchings ≡ top → branchings ≡ 0 + made → made ≡ top
+  all_made branchings top made e f = omega arith
+
   below : (far : ℕ) → (far ≤ limit → ⊥) → limit < far
   below far h = omega arith
 
@@ -107,7 +111,7 @@ module _ (lib : LibraryParts) (limit analysts : ℕ) (entries : List Entry) (sta
       let at = spent incumbent is in
       let same = limit_is (NodeLimit incumbent) is in
       record {
-        spent = sym (branches_are_counted (base_problem lib) entries (start_of limit) state is.legal.steps) ∙ at.spent ∙ same;
+        spent = all_made state.branchings limit (length (filter is_branch entries)) (at.spent ∙ same) (branches_are_counted (base_problem lib) entries (start_of limit) state is.legal.steps);
         short = below (2 ^ member_count lib) (λ far. limit_is_enough (base_problem lib) state (invariant (NodeLimit incumbent) is) (subst (λ (n : ℕ). 2 ^ member_count lib ≤ n) (sym same) far) incumbent is.answers);
         number = at.number;
         cube = at.cube;
@@ -120,7 +124,7 @@ last_of P [] x all = all.0
 last_of P (y ∷ ys) x all = last_of P ys x all.1
 
 of_last : {X : Type 0} (P : X → Type 0) (xs : List X) (x : X) → All P (xs ++ x ∷ []) → P x
-of_last P xs x all = last_of P xs x (recursion_from_All all)
+of_last P xs x all = last_of P xs x (recursion_from_All P (xs ++ x ∷ []) all)
 
 -- the cuts
 module _ (lib : LibraryParts) (limit analysts : ℕ) (entries : List Entry) (state : SearchState) (answer : Answer) (is : IsSearch lib limit analysts entries state answer) where

@@ -112,7 +112,7 @@ reads_as_within of ending refusal told name Job endings read written has refused
 abbrev Its : (List ℕ → Option (List ℕ)) → Asked → Type 0
 Its told asked = Within (CommandComesTo told asked) (endings_of asked) (files_read asked) (files_written asked)
 
-at_0 : {X : Type 0} (x : X) (xs : List X) → Contains (x ∷ xs) x
+pub at_0 : {X : Type 0} (x : X) (xs : List X) → Contains (x ∷ xs) x
 at_0 x xs = (0, omega arith, refl)
 
 at_1 : {X : Type 0} (w x : X) (xs : List X) → Contains (w ∷ x ∷ xs) x

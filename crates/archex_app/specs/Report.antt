@@ -29,7 +29,7 @@ best_lines lib (Some best) = architecture_lines lib best.architecture
 
 -- how many branchings a search made, and how many cuts it learned
 abbrev pub counts_text : ℕ → ℕ → List ℕ
-counts_text branchings cuts = codes "branchings " ++ decimal branchings ++ codes "\n" ++ codes "cuts " ++ decimal cuts ++ codes "\n"
+counts_text branchings cuts = codes "branchings " ++ decimal branchings ++ codes "\ncuts " ++ decimal cuts ++ codes "\n"
 
 -- the report of a cheapest architecture
 abbrev pub optimal_text : LibraryParts → ArchitectureParts → ℕ → ℕ → List ℕ

@@ -47,8 +47,8 @@ numeral least most word =
 
 -- goes on with a number, or names the place of the word that isn't one
 abbrev pub numbered : ℕ → Option ℕ → (ℕ → Result Asked ℕ) → Result Asked ℕ
-numbered place None then = Err place
-numbered place (Some n) then = then n
+numbered place None next = Err place
+numbered place (Some n) next = next n
 
 -- the numbers after the names: the limit of branchings, the workers, and the analysts, of whom there are no more than workers
 abbrev pub solve_numbers : List ℕ → List ℕ → List ℕ → List ℕ → List ℕ → Result Asked ℕ

@@ -1,18 +1,18 @@
 // The log of a search, as a file that is written from its start, in pieces.
 ghost use Rattle.std.specs.Prelude.{◌≡◌, ◌≢◌, ℕ, ◌≤◌, List, [], ◌∷◌, ◌++◌};
-ghost use Rattle.std.specs.Prelude.{OnOk, OnErr, IsErrOf, IfSome};
+ghost use Rattle.std.specs.Prelude.{OnOk, OnErr, IsErrOf, IfSome, IfOk};
 ghost use Rattle.outside.specs.Faults.{Rose, Stay, ChangesOnly};
 ghost use Rattle.outside.specs.Told.{Appends};
-ghost use Rattle.proof_log.specs.Value.{ended, entry_text, closing_text};
+ghost use Rattle.proof_log.specs.Value.{ended, entry_text, header_text, closing_text};
 ghost use Rattle.proof_log.specs.Log.{log_text_of};
 ghost use Rattle.archex_app.specs.Inner.Log.{IsAppended, IsAppendedSome, IsFrontOf, entry_lines};
 
+use crate::stand_in::Solved;
 use outside::{Failed, Shelf};
 use proof_log::{closing, header, write_entry};
 use rows::Problem;
 use search_core::Entry;
 use std::alloc::{AllocError, Global};
-use crate::stand_in::Solved;
 
 /// A piece is appended to the file once it has at least this many bytes.
 const PIECE: usize = 65536;
@@ -170,6 +170,15 @@ fn write_lines<F: Shelf>(
     Ok(())
 }
 
+// The first lines of a log.
+fn first_lines(alloc: Global, problem: &Problem, limit: u32) -> Result<Vec<u8>, AllocError>
+    ensures { IfOk result (λ bytes. bytes.items ≡ header_text problem.now limit) }
+{
+    let mut bytes = Vec::new(alloc);
+    header(problem, limit, &mut bytes)?;
+    Ok(bytes)
+}
+
 /// Writes the log of a search under a name, whatever stood there. Where a write fails or memory is
 /// wanting, there stays what stood there, or a front of the log.
 pub fn write_log<F: Shelf>(
@@ -197,8 +206,7 @@ pub fn write_log<F: Shelf>(
         → Stay (F.write_faults shelf.old) (F.write_faults shelf.new) }
     ensures writes_alone { ChangesOnly (name.now ∷ []) (F.write_faults shelf.old) (F.write_faults shelf.new) }
 {
-    let mut buffer = Vec::new(alloc);
-    header(problem, limit, &mut buffer)?;
+    let mut buffer = first_lines(alloc, problem, limit)?;
     shelf.fresh(name)?;
     write_lines(shelf, name, solved, &mut buffer)
 }

@@ -74,8 +74,7 @@ fn counts(alloc: Global, branchings: u32, cuts: u32) -> Result<String, Memory>
     ensures { IfOk result (λ text. string_bytes text ≡ counts_text branchings cuts) }
 {
     let mut text = String::new(alloc);
-    write!(text, "branchings {branchings}\n")?;
-    write!(text, "cuts {cuts}\n")?;
+    write!(text, "branchings {branchings}\ncuts {cuts}\n")?;
     Ok(text)
 }
 

@@ -12,12 +12,14 @@ ghost use Rattle.archex_app.specs.Run.{Runs, seen};
 ghost use Rattle.archex_app.specs.Report.{report_text, ending_of};
 ghost use Rattle.archex_app.specs.Inner.Report.{HasBest};
 ghost use Rattle.archex_app.specs.Inner.Outcome.{StopsAt};
+ghost use Rattle.archex_app.specs.Inner.Log.{Concludes};
 ghost use Rattle.archex_app.specs.Inner.Searched.{IsSearched, IsSearchedUnder};
 
 use crate::library::library_under;
 use crate::log_file::{WriteError, write_log};
-use crate::outcome::{Outcome, Stop, finish};
+use crate::outcome::{Outcome, Stop, finish, print};
 use crate::report::{report, status_for};
+use crate::stand_in::{Solved, solve_alone};
 use crate::status::Status;
 use arch_model::{Library, Memory};
 use binary_program::problem_of;
@@ -25,7 +27,6 @@ use outside::{Shelf, Sink};
 use rows::{Problem, variable_count};
 use std::alloc::Global;
 use std::borrow::CowSlice;
-use crate::stand_in::{Solved, solve_alone};
 
 /// A search that came to its end, and its report.
 #[derive(Drop)]
@@ -98,6 +99,19 @@ fn search_under<F: Shelf>(
     Ok(searched)
 }
 
+// Ends a run whose log was written, or wasn't: only a run with a whole log prints.
+fn conclude<O: Sink>(out: &mut O, written: Result<(), WriteError>, report: Outcome) -> Status
+    ensures concludes { Concludes written report result
+        (O.told out.old) (O.told out.new) (O.faults out.old) (O.faults out.new) }
+    ensures never_falls { O.faults out.old ≤ O.faults out.new }
+{
+    match written {
+        Ok(()) => print(out, report.text.as_slice(), report.status),
+        Err(WriteError::Failed) => Status::WRITE_FAULT,
+        Err(WriteError::Memory) => Status::NO_MEMORY,
+    }
+}
+
 /// Does what `solve` asks: reads the library, searches it with one worker up to a limit of
 /// branchings, writes the log of the search, whole, and prints its report.
 pub fn solve_library<F: Shelf, O: Sink>(
@@ -121,20 +135,12 @@ pub fn solve_library<F: Shelf, O: Sink>(
         (seen (F.told shelf.new) (F.read_faults shelf.new) (F.write_faults shelf.new)
         (O.told out.new) (O.faults out.new)) }
 {
-    let searched = match search_under(alloc, shelf, lib, limit) {
-        Ok(searched) => searched,
-        Err(stop) => return finish(out, Err(stop)),
-    };
-    match write_log(
-        alloc,
-        shelf,
-        log,
-        &searched.problem,
-        limit,
-        &searched.solved,
-    ) {
-        Ok(()) => finish(out, Ok(searched.report)),
-        Err(WriteError::Failed) => Status::WRITE_FAULT,
-        Err(WriteError::Memory) => Status::NO_MEMORY,
+    match search_under(alloc, shelf, lib, limit) {
+        Ok(searched) => {
+            let problem = &searched.problem;
+            let written = write_log(alloc, shelf, log, problem, limit, &searched.solved);
+            conclude(out, written, searched.report)
+        }
+        Err(stop) => finish(out, Err(stop)),
     }
 }

@@ -1,11 +1,11 @@
 // Searches that their limit of branchings ends, and how many branchings searches take.
 use crate::Status;
-use crate::tests::{SOLVE, run_on};
+use crate::tests::{run_on, without_counts};
 use std::alloc::{AllocError, Global};
 use std::test::Fail;
 
-// Two generators, two buses and a load that a chain of one each is enough for.
-const ONE_CHAIN: &[u8] = b"type = [
+// Two generators, two buses and a load for which one generator alone is too little.
+const TWO_CHAINS: &[u8] = b"type = [
   {name = \"gen\", role = \"source\", max = 2, cost = 100, fail = 1000},
   {name = \"bus\", role = \"middle\", max = 2, cost = 20, fail = 100},
   {name = \"load\", role = \"sink\"},
@@ -14,7 +14,7 @@ link = [
   {from = \"gen\", to = \"bus\", cost = 5},
   {from = \"bus\", to = \"load\", cost = 5},
 ]
-require = [{sink = \"load.1\", bound = 1100000000000000}]
+require = [{sink = \"load.1\", bound = 500000000000000}]
 ";
 
 // Twelve pairs of components of cost 10, of which one each has to be present.
@@ -106,14 +106,53 @@ fn bounds_save_branchings(rt: HostRuntime) -> Result<(), Fail> {
     Ok(())
 }
 
+// What a run over two chains under a limit of branchings printed, and its status.
+fn limited(alloc: Global, limit: u32) -> Result<(Status, Vec<u8>), AllocError> {
+    let limit = limit.to_string(alloc)?;
+    let words = &["solve", "x.toml", "x.log", limit.as_str(), "1", "0"];
+    run_on(alloc, words, TWO_CHAINS, &[])
+}
+
+// Whether a report of a spent limit has a best, whose weight is within the bound.
+fn has_incumbent(report: &[u8]) -> bool {
+    report.starts_with(b"status nodelimit\ncost ")
+        && without_counts(report).ends_with(b" of 500000000000000\n")
+}
+
+// Whether a report of a spent limit says that there is no best.
+fn has_none(report: &[u8]) -> bool {
+    without_counts(report) == b"status nodelimit\nincumbent none\n".as_slice()
+}
+
+// Whether a report says that so many branchings were made.
+fn counts(alloc: Global, report: &[u8], branchings: u32) -> Result<bool, AllocError> {
+    let mut line = String::new(alloc);
+    write!(line, "branchings {branchings}\n")?;
+    let counts = &report[without_counts(report).len()..];
+    Ok(counts.starts_with(line.as_bytes()))
+}
+
 // Where the limit of branchings is spent before the search is over, the report has the best until
-// then, or says that there is none.
+// then, or says that there is none, and all of the limit was made. Some limit is spent with a best.
 #[test]
 fn a_limit_ends_the_search(rt: HostRuntime) -> Result<(), Fail> {
-    let none = b"status nodelimit\nincumbent none\nbranchings 0\ncuts 0\n";
-    let words = &["solve", "x.toml", "x.log", "0", "1", "0"];
-    let (ended, printed) = run_on(rt.alloc(), words, ONE_CHAIN, &[])?;
+    let mut with_best = 0;
+    for limit in 0..12 {
+        let (ended, printed) = limited(rt.alloc(), limit)?;
+        let report = printed.as_slice();
+        if ended == Status(2) {
+            assert!(rt; has_none(report) || has_incumbent(report));
+            assert!(rt; counts(rt.alloc(), report, limit)?);
+            with_best += u32::from(has_incumbent(report));
+        } else {
+            assert_eq!(rt; ended, Status(0));
+            assert!(rt; report.starts_with(b"status optimal\ncost 235\n"));
+        }
+    }
+    assert!(rt; with_best > 0);
+    let (ended, printed) = limited(rt.alloc(), 0)?;
     assert_eq!(rt; ended, Status(2));
+    let none = b"status nodelimit\nincumbent none\nbranchings 0\ncuts 0\n";
     assert_eq!(rt; printed.as_slice(), none.as_slice());
     Ok(())
 }

@@ -1,4 +1,5 @@
-use Rattle.archex_app.proofs.Headline.{run_of_words, optimal, none_meets, limit_met, refused_library, read_rose, cut, searched, leaves_log, completes, enough, refused_first, refused, may_end, read_among, write_rose, prints_nothing, reads_stay, writes_stay, prints_stay}
+use Rattle.archex_app.proofs.AllRuns.{run_of_words, refused_first, refused, may_end, read_among, write_rose, prints_nothing, reads_stay, writes_stay, prints_stay}
+use Rattle.archex_app.proofs.Headline.{optimal, none_meets, limit_met, refused_library, read_rose, cut, searched, leaves_log, completes, enough}
 use Rattle.archex_app.proofs.MassHeadline as mass
 use Rattle.archex_app.proofs.run.run_plain.Goals as goal
 
