@@ -140,6 +140,32 @@ pub kept_front : (before now : Option (List ℕ)) (text : List ℕ) → KeptOrEm
 kept_front before now text left = elim left [ inl same ↦ inl same | inr empty ↦ inr (empty_front now text empty) ]
 
 -- the text of a log, by its parts
-pub log_is : (problem : ProblemParts) (limit : ℕ) (entries : List Entry) (answer : Answer) (branchings cuts : ℕ) (head : List ℕ) → head ≡ header_text problem limit
+log_is : (problem : ProblemParts) (limit : ℕ) (entries : List Entry) (answer : Answer) (branchings cuts : ℕ) (head : List ℕ) → head ≡ header_text problem limit
     → head ++ (entry_lines entries ++ ended (closing_text answer branchings cuts)) ≡ log_text_of problem limit entries answer branchings cuts
 log_is problem limit entries answer branchings cuts head is = ap (λ h. h ++ (entry_lines entries ++ ended (closing_text answer branchings cuts))) is ∙ sym (log_parts problem limit entries answer branchings cuts)
+
+pub log_whole : (fresh now : Option (List ℕ)) (problem : ProblemParts) (limit : ℕ) (entries : List Entry) (answer : Answer) (branchings cuts : ℕ) (head : List ℕ) → head ≡ header_text problem limit → IfSome fresh (λ bytes. bytes ≡ [])
+    → Appends fresh now (head ++ (entry_lines entries ++ ended (closing_text answer branchings cuts))) → IfSome now (λ bytes. bytes ≡ log_text_of problem limit entries answer branchings cuts)
+log_whole fresh now problem limit entries answer branchings cuts head is empty adds =
+    let P : List ℕ → Type 0 = Appends fresh now in
+    holds_whole fresh now (log_text_of problem limit entries answer branchings cuts) empty (subst P (log_is problem limit entries answer branchings cuts head is) adds)
+
+pub log_front : (before fresh now : Option (List ℕ)) (problem : ProblemParts) (limit : ℕ) (entries : List Entry) (answer : Answer) (branchings cuts : ℕ) (head : List ℕ) → head ≡ header_text problem limit → IfSome fresh (λ bytes. bytes ≡ [])
+    → IsAppendedSome fresh now (head ++ (entry_lines entries ++ ended (closing_text answer branchings cuts))) → IsFrontOf before now (log_text_of problem limit entries answer branchings cuts)
+log_front before fresh now problem limit entries answer branchings cuts head is empty some =
+    holds_front before fresh now (log_text_of problem limit entries answer branchings cuts) empty (some_same fresh now (head ++ (entry_lines entries ++ ended (closing_text answer branchings cuts))) (log_text_of problem limit entries answer branchings cuts) (log_is problem limit entries answer branchings cuts head is) some)
+
+-- by way of slices
+pub whole_same : (before now : Option (List ℕ)) (text other left : List ℕ) → text ≡ other → IsAppended before now text left → IsAppended before now other left
+whole_same before now text other left same is = same_text before now text other left same is
+
+pub appended_cleared : (before now : Option (List ℕ)) (buffer slice left : List ℕ) → slice ≡ buffer → Appends before now slice → left ≡ [] → IsAppended before now buffer left
+appended_cleared before now buffer slice left same all none =
+    let P : List ℕ → Type 0 = IsAppended before now buffer in
+    subst P (sym none) (same_text before now slice buffer [] same (appended_all before now slice all))
+
+pub some_entries : (before now : Option (List ℕ)) (old : List ℕ) (slice entries : List Entry) → slice ≡ entries → IsAppendedSome before now (old ++ entry_lines slice) → IsAppendedSome before now (old ++ entry_lines entries)
+some_entries before now old slice entries same is = some_same before now (old ++ entry_lines slice) (old ++ entry_lines entries) (ap (λ (es : List Entry). old ++ entry_lines es) same) is
+
+pub whole_entries : (before now : Option (List ℕ)) (old buffer : List ℕ) (slice entries : List Entry) → slice ≡ entries → IsAppended before now (old ++ entry_lines slice) buffer → IsAppended before now (old ++ entry_lines entries) buffer
+whole_entries before now old buffer slice entries same is = same_text before now (old ++ entry_lines slice) (old ++ entry_lines entries) buffer (ap (λ (es : List Entry). old ++ entry_lines es) same) is

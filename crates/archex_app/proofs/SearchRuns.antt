@@ -136,3 +136,7 @@ pub stopped_run : (ask : SolveWords) (stop : Stop) (status : Status) (before now
     → Finishes (Err stop) status before.printed now.printed before.prints now.prints → ((name : List ℕ) → now.told name ≡ before.told name) → NeverFall before.reads now.reads → Stay before.writes now.writes → before.prints ≤ now.prints → Runs (Ok (solve ask)) status before now
 stopped_run ask stop status before now stops finishes told rise writes prints =
     finished (solve ask) (Err stop) status before now (stops_at library_of library_refused refused_library_text before.told ask.lib (SearchComesTo ask.log ask.branchings ALONE) stop before.reads now.reads tt stops) finishes told rise writes prints
+
+-- what is said of a library as it was lent
+pub library_same : (lent lib : LibraryParts) → lent ≡ lib → IsLibrary lent → IsLibrary lib
+library_same lent lib same is = subst IsLibrary same is

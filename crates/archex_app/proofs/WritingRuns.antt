@@ -22,7 +22,7 @@ pub record Wrote (name : List ℕ) (before now : Seen) : Type 0 where
   pub alone : ChangesOnly (name ∷ []) before.writes now.writes
 
 -- after steps in which no count changed
-alone_from : (names : List (List ℕ)) (before mid now : List ℕ → ℕ) → Stay before mid → ChangesOnly names mid now → ChangesOnly names before now
+pub alone_from : (names : List (List ℕ)) (before mid now : List ℕ → ℕ) → Stay before mid → ChangesOnly names mid now → ChangesOnly names before now
 alone_from names before mid now stay alone = λ other. elim (alone other) [
   | inl same ↦ inl (same ∙ stay other)
   | inr one ↦ inr (one.0, one.1, sym (stay other) ∙ one.2 ∙ stay one.0, one.3)
