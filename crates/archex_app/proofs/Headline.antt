@@ -25,7 +25,7 @@ use Rattle.archex_app.specs.Complete.{Solves, Completes}
 use Rattle.archex_app.specs.Run.{Seen, names_of, RoseAmong, PrintsFrontOf, EndsAsDue, FailsToRead, FailsAtFile, FailsAtText, FailsToWrite, HoldsAll, HoldsFronts, WantsMemory, Runs}
 use Rattle.archex_app.proofs.RunLaws.{apart}
 use Rattle.archex_app.proofs.SearchAnswers.{optimal_shows, infeasible_shows, limit_shows, some_admissible, none_admissible, limit_spent, cuts_hold}
-use Rattle.archex_app.proofs.StandIn.{logs_of_searches_pass}
+use Rattle.archex_app.proofs.PassingLogs.{search_passes}
 use Rattle.archex_app.proofs.Within.{only_one, same_ending, same_files, same_text, no_read, words_read}
 use Rattle.archex_app.proofs.AllRuns.{as_due, as_read, as_write, as_memory, write_rose}
 
@@ -176,7 +176,7 @@ searched_from ask status before now due bytes told w = record {
   ended_so = due.ended_so ∙ ap status_of w.ending_is;
   printed = subst (λ (t : List ℕ). Appends before.printed now.printed t) w.text_is due.printed;
   log = only_file ask.log (search_log w.lib ask.branchings w.entries w.state w.answer) due.files before now w.files_are due.holds;
-  passes = logs_of_searches_pass (base_problem w.lib) ask.branchings w.entries w.state w.answer w.search.library w.search.problem w.search.legal w.search.no_reopen w.search.answers;
+  passes = search_passes bytes w.lib ask.branchings ALONE w.entries w.state w.answer w.read w.search;
   cuts_hold = cuts_hold w.lib ask.branchings ALONE w.entries w.state w.answer w.search;
   at_limit = λ incumbent is. limit_spent w.lib ask.branchings ALONE w.entries w.state incumbent (subst (λ (a : Answer). IsSearch w.lib ask.branchings ALONE w.entries w.state a) is w.search);
 }

@@ -4,7 +4,7 @@ pub mod ReportLaws
 pub mod SearchAnswers
 pub mod WritingRuns
 pub mod SearchRuns
-pub mod StandIn
+pub mod PassingLogs
 pub mod WordLaws
 pub mod NumeralLaws
 pub mod Within
