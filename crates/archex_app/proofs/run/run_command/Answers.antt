@@ -6,7 +6,7 @@ pub solve_library-requires : goal.solve_library-requires
 solve_library-requires g c = (rw c.in-Ok-Solve.field-0-is at c.in-Ok-Solve.ensures.range).0
 
 pub returns-in-Ok-Solve-clause-run : goal.returns-in-Ok-Solve-clause-run
-returns-in-Ok-Solve-clause-run g c = runs_as _ _ _ _ _ (rw c.in-Ok-Solve.field-0-is at c.in-Ok-Solve.ensures.command) (c.solve_library.ensures.run c.in-Ok-Solve.workers c.in-Ok-Solve.analysts)
+returns-in-Ok-Solve-clause-run g c = runs_as _ _ _ _ _ (rw c.in-Ok-Solve.field-0-is at c.in-Ok-Solve.ensures.command) (c.solve_library.ensures.run c.in-Ok-Solve.field-0-3 c.in-Ok-Solve.field-0-4)
 
 pub returns-in-Err-clause-run : goal.returns-in-Err-clause-run
 returns-in-Err-clause-run g c =
