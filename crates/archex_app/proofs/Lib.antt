@@ -4,6 +4,7 @@ pub mod ReportLaws
 pub mod SearchAnswers
 pub mod WritingRuns
 pub mod SearchRuns
+pub mod NoFailures
 pub mod PassingLogs
 pub mod WordLaws
 pub mod NumeralLaws

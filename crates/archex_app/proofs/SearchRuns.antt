@@ -18,12 +18,12 @@ use Rattle.search_core.proofs.CutRows.{right_cuts}
 use Rattle.search_core.proofs.Runs.{reached_is_kept}
 use Rattle.proof_log.specs.Log.{log_text_of}
 use Rattle.archex_app.specs.declared.status.Status.{Status}
-use Rattle.archex_app.specs.declared.stand_in.Solved.{Solved}
+use Rattle.worker_team.specs.declared.solved.Solved.{Solved}
 use Rattle.archex_app.specs.declared.solve.Searched.{Searched}
 use Rattle.archex_app.specs.declared.outcome.Stop.{Stop}
 use Rattle.archex_app.specs.declared.log_file.WriteError.{WriteError}
 use Rattle.archex_app.specs.declared.log_file.WriteError.TheVariants.{Memory, Failed}
-use Rattle.archex_app.specs.StandIn.{IsSolved}
+use Rattle.worker_team.specs.Solved.{IsSolved}
 use Rattle.archex_app.specs.Status.{Ending, status_of, library_refused}
 use Rattle.archex_app.specs.Refusal.{refused_library_text}
 use Rattle.archex_app.specs.Due.{Due, ends, IsSettled}

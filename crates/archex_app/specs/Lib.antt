@@ -15,4 +15,3 @@ pub mod MassAnswer
 pub mod Complete
 pub mod Searched
 pub mod Inner
-pub mod StandIn

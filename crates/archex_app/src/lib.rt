@@ -35,7 +35,6 @@ mod report;
 mod run;
 mod sink;
 mod solve;
-mod stand_in;
 mod status;
 mod sure;
 mod words;

@@ -7,12 +7,12 @@ ghost use Rattle.proof_log.specs.Value.{ended, entry_text, header_text, closing_
 ghost use Rattle.proof_log.specs.Log.{log_text_of};
 ghost use Rattle.archex_app.specs.Inner.Log.{IsAppended, IsAppendedSome, IsFrontOf, entry_lines};
 
-use crate::stand_in::Solved;
 use outside::{Failed, Shelf};
 use proof_log::{closing, header, write_entry};
 use rows::Problem;
 use search_core::Entry;
 use std::alloc::{AllocError, Global};
+use worker_team::Solved;
 
 /// A piece is appended to the file once it has at least this many bytes.
 const PIECE: usize = 65536;

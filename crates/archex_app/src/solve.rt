@@ -19,7 +19,6 @@ use crate::library::library_under;
 use crate::log_file::{WriteError, write_log};
 use crate::outcome::{Outcome, Stop, finish, print};
 use crate::report::{report, status_for};
-use crate::stand_in::{Solved, solve_alone};
 use crate::status::Status;
 use arch_model::{Library, Memory};
 use binary_program::problem_of;
@@ -27,6 +26,7 @@ use outside::{Shelf, Sink};
 use rows::{Problem, variable_count};
 use std::alloc::Global;
 use std::borrow::CowSlice;
+use worker_team::{Solved, solve_alone};
 
 /// A search that came to its end, and its report.
 #[derive(Drop)]
