@@ -18,13 +18,13 @@ use Rattle.archex_app.specs.Words.{SolveWords, solve}
 use Rattle.archex_app.specs.Refusal.{refused_library_text}
 use Rattle.archex_app.specs.Search.{base_problem, IsSearch, search_log}
 use Rattle.archex_app.specs.Report.{search_report, ending_of}
-use Rattle.archex_app.specs.Answer.{ShowsCheapest, ShowsInfeasible, ShowsNodeLimit, ShowsRefusal, ShowsAnswer, Prints, PrintsFront}
+use Rattle.archex_app.specs.Answer.{ShowsCheapest, ShowsInfeasible, ShowsNodeLimit, ShowsRefusal, ShowsReport, Prints, PrintsFront}
 use Rattle.archex_app.specs.Searched.{Answered, ShowsSearch, IsLogFront, LeavesLog}
 use Rattle.archex_app.specs.ComesTo.{ComesTo, SearchComesTo, ALONE, EndsWith}
 use Rattle.archex_app.specs.Complete.{Solves, Completes}
 use Rattle.archex_app.specs.Run.{Seen, names_of, RoseAmong, PrintsFrontOf, EndsAsDue, FailsToRead, FailsAtFile, FailsAtText, FailsToWrite, HoldsAll, HoldsFronts, WantsMemory, Runs}
 use Rattle.archex_app.proofs.RunLaws.{apart}
-use Rattle.archex_app.proofs.SearchAnswers.{optimal_shows, infeasible_shows, limit_shows, some_admissible, none_admissible, limit_spent, cuts_hold}
+use Rattle.archex_app.proofs.SearchAnswers.{optimal_shows, infeasible_shows, limit_shows, some_admissible, none_admissible, least_best, best_admissible, limit_spent, cuts_hold}
 use Rattle.archex_app.proofs.PassingLogs.{search_passes}
 use Rattle.archex_app.proofs.Within.{only_one, same_ending, same_files, same_text, no_read, words_read}
 use Rattle.archex_app.proofs.AllRuns.{as_due, as_read, as_write, as_memory, write_rose}
@@ -36,7 +36,7 @@ record Found (ask : SolveWords) (bytes : List ℕ) (ending : Ending) (files : Li
   pub entries : List Entry
   pub state : SearchState
   pub answer : Answer
-  pub search : IsSearch lib ask.branchings ALONE entries state answer
+  pub search : IsSearch lib ask.branchings ALONE ALONE entries state answer
   pub ending_is : ending ≡ ending_of answer
   pub files_are : files ≡ (ask.log, search_log lib ask.branchings entries state answer) ∷ []
   pub text_is : text ≡ search_report lib state answer
@@ -48,7 +48,7 @@ abbrev SolveShows : SolveWords → List ℕ → Ending → List (List ℕ × Lis
 SolveShows ask bytes ending files text = Found ask bytes ending files text ⊎ Refused bytes ending files text
 
 bytes_show : (ask : SolveWords) (bytes : List ℕ) (ending : Ending) (files : List (List ℕ × List ℕ)) (text : List ℕ) (answer : Result LibraryParts LibFault) → library_of bytes ≡ answer
-    → MatchResult answer (λ lib. SearchComesTo ask.log ask.branchings ALONE lib (ends ending files text)) (λ fault. EndsWith library_refused (refused_library_text fault) (ends ending files text)) → SolveShows ask bytes ending files text
+    → MatchResult answer (λ lib. SearchComesTo ask.log ask.branchings ALONE ALONE lib (ends ending files text)) (λ fault. EndsWith library_refused (refused_library_text fault) (ends ending files text)) → SolveShows ask bytes ending files text
 bytes_show ask bytes ending files text (Ok lib) read job = inl (record {
   lib = lib;
   read = read;
@@ -73,26 +73,26 @@ solve_reads : (told : List ℕ → Option (List ℕ)) (ask : SolveWords) (n : Li
 solve_reads told ask n comes = only_one ask.lib n (words_read told (Ok (solve ask)) n comes)
 
 -- what a search shows, by its answer
-cheapest_if : (ask : SolveWords) (bytes text : List ℕ) (lib : LibraryParts) (entries : List Entry) (state : SearchState) (answer : Answer) → library_of bytes ≡ Ok lib → IsSearch lib ask.branchings ALONE entries state answer → text ≡ search_report lib state answer
+cheapest_if : (ask : SolveWords) (bytes text : List ℕ) (lib : LibraryParts) (entries : List Entry) (state : SearchState) (answer : Answer) → library_of bytes ≡ Ok lib → IsSearch lib ask.branchings ALONE ALONE entries state answer → text ≡ search_report lib state answer
     → number_of (ending_of answer) ≡ 0 → ShowsCheapest bytes text
-cheapest_if ask bytes text lib entries state (Optimal cost) read is text_is zero_is = subst (λ (t : List ℕ). ShowsCheapest bytes t) (sym text_is) (optimal_shows lib ask.branchings ALONE entries state cost bytes read is)
+cheapest_if ask bytes text lib entries state (Optimal cost) read is text_is zero_is = subst (λ (t : List ℕ). ShowsCheapest bytes t) (sym text_is) (optimal_shows lib ask.branchings ALONE ALONE entries state cost bytes read is)
 cheapest_if ask bytes text lib entries state Infeasible read is text_is zero_is = absurd (omega arith)
 cheapest_if ask bytes text lib entries state (NodeLimit incumbent) read is text_is zero_is = absurd (omega arith)
 
-none_if : (ask : SolveWords) (bytes text : List ℕ) (lib : LibraryParts) (entries : List Entry) (state : SearchState) (answer : Answer) → library_of bytes ≡ Ok lib → IsSearch lib ask.branchings ALONE entries state answer → text ≡ search_report lib state answer
+none_if : (ask : SolveWords) (bytes text : List ℕ) (lib : LibraryParts) (entries : List Entry) (state : SearchState) (answer : Answer) → library_of bytes ≡ Ok lib → IsSearch lib ask.branchings ALONE ALONE entries state answer → text ≡ search_report lib state answer
     → number_of (ending_of answer) ≡ 1 → ShowsInfeasible bytes text
 none_if ask bytes text lib entries state (Optimal cost) read is text_is one_is = absurd (omega arith)
-none_if ask bytes text lib entries state Infeasible read is text_is one_is = subst (λ (t : List ℕ). ShowsInfeasible bytes t) (sym text_is) (infeasible_shows lib ask.branchings ALONE entries state bytes read is)
+none_if ask bytes text lib entries state Infeasible read is text_is one_is = subst (λ (t : List ℕ). ShowsInfeasible bytes t) (sym text_is) (infeasible_shows lib ask.branchings ALONE ALONE entries state bytes read is)
 none_if ask bytes text lib entries state (NodeLimit incumbent) read is text_is one_is = absurd (omega arith)
 
-limit_if : (ask : SolveWords) (bytes text : List ℕ) (lib : LibraryParts) (entries : List Entry) (state : SearchState) (answer : Answer) → library_of bytes ≡ Ok lib → IsSearch lib ask.branchings ALONE entries state answer → text ≡ search_report lib state answer
+limit_if : (ask : SolveWords) (bytes text : List ℕ) (lib : LibraryParts) (entries : List Entry) (state : SearchState) (answer : Answer) → library_of bytes ≡ Ok lib → IsSearch lib ask.branchings ALONE ALONE entries state answer → text ≡ search_report lib state answer
     → number_of (ending_of answer) ≡ 2 → ShowsNodeLimit ask.branchings bytes text
 limit_if ask bytes text lib entries state (Optimal cost) read is text_is two_is = absurd (omega arith)
 limit_if ask bytes text lib entries state Infeasible read is text_is two_is = absurd (omega arith)
-limit_if ask bytes text lib entries state (NodeLimit incumbent) read is text_is two_is = subst (λ (t : List ℕ). ShowsNodeLimit ask.branchings bytes t) (sym text_is) (limit_shows lib ask.branchings ALONE entries state incumbent bytes read is)
+limit_if ask bytes text lib entries state (NodeLimit incumbent) read is text_is two_is = subst (λ (t : List ℕ). ShowsNodeLimit ask.branchings bytes t) (sym text_is) (limit_shows lib ask.branchings ALONE ALONE entries state incumbent bytes read is)
 
-answer_if : (ask : SolveWords) (bytes text : List ℕ) (lib : LibraryParts) (entries : List Entry) (state : SearchState) (answer : Answer) → library_of bytes ≡ Ok lib → IsSearch lib ask.branchings ALONE entries state answer → text ≡ search_report lib state answer
-    → ShowsAnswer ask.branchings bytes text
+answer_if : (ask : SolveWords) (bytes text : List ℕ) (lib : LibraryParts) (entries : List Entry) (state : SearchState) (answer : Answer) → library_of bytes ≡ Ok lib → IsSearch lib ask.branchings ALONE ALONE entries state answer → text ≡ search_report lib state answer
+    → ShowsReport ask.branchings bytes text
 answer_if ask bytes text lib entries state (Optimal cost) read is text_is = inl (cheapest_if ask bytes text lib entries state (Optimal cost) read is text_is refl)
 answer_if ask bytes text lib entries state Infeasible read is text_is = inr (inl (none_if ask bytes text lib entries state Infeasible read is text_is refl))
 answer_if ask bytes text lib entries state (NodeLimit incumbent) read is text_is = inr (inr (inl (limit_if ask bytes text lib entries state (NodeLimit incumbent) read is text_is refl)))
@@ -116,7 +116,7 @@ optimal ask status before now run is =
     let due : Came ask status before now = as_due _ status before now 0 run.goes.ended is (λ e. omega arith) (λ e. omega arith) (λ e. omega arith) in
     let found = solve_shows before.told ask due.ending due.files due.text due.due in
     elim found.2 [
-      | inl w ↦ record { bytes = found.0; read = found.1; text = due.text; shows = cheapest_if ask found.0 due.text w.lib w.entries w.state w.answer w.read w.search w.text_is (same_number status 0 due.ending (ending_of w.answer) is due.ended_so w.ending_is); printed = due.printed }
+      | inl w ↦ record { bytes = found.0; told = found.1; text = due.text; shows = cheapest_if ask found.0 due.text w.lib w.entries w.state w.answer w.read w.search w.text_is (same_number status 0 due.ending (ending_of w.answer) is due.ended_so w.ending_is); printed = due.printed }
       | inr w ↦ absurd (not_refused 0 status found.0 due.text due.ending due.files is due.ended_so (λ e. omega arith) w)
     ]
 
@@ -125,7 +125,7 @@ none_meets ask status before now run is =
     let due : Came ask status before now = as_due _ status before now 1 run.goes.ended is (λ e. omega arith) (λ e. omega arith) (λ e. omega arith) in
     let found = solve_shows before.told ask due.ending due.files due.text due.due in
     elim found.2 [
-      | inl w ↦ record { bytes = found.0; read = found.1; text = due.text; shows = none_if ask found.0 due.text w.lib w.entries w.state w.answer w.read w.search w.text_is (same_number status 1 due.ending (ending_of w.answer) is due.ended_so w.ending_is); printed = due.printed }
+      | inl w ↦ record { bytes = found.0; told = found.1; text = due.text; shows = none_if ask found.0 due.text w.lib w.entries w.state w.answer w.read w.search w.text_is (same_number status 1 due.ending (ending_of w.answer) is due.ended_so w.ending_is); printed = due.printed }
       | inr w ↦ absurd (not_refused 1 status found.0 due.text due.ending due.files is due.ended_so (λ e. omega arith) w)
     ]
 
@@ -134,7 +134,7 @@ limit_met ask status before now run is =
     let due : Came ask status before now = as_due _ status before now 2 run.goes.ended is (λ e. omega arith) (λ e. omega arith) (λ e. omega arith) in
     let found = solve_shows before.told ask due.ending due.files due.text due.due in
     elim found.2 [
-      | inl w ↦ record { bytes = found.0; read = found.1; text = due.text; shows = limit_if ask found.0 due.text w.lib w.entries w.state w.answer w.read w.search w.text_is (same_number status 2 due.ending (ending_of w.answer) is due.ended_so w.ending_is); printed = due.printed }
+      | inl w ↦ record { bytes = found.0; told = found.1; text = due.text; shows = limit_if ask found.0 due.text w.lib w.entries w.state w.answer w.read w.search w.text_is (same_number status 2 due.ending (ending_of w.answer) is due.ended_so w.ending_is); printed = due.printed }
       | inr w ↦ absurd (not_refused 2 status found.0 due.text due.ending due.files is due.ended_so (λ e. omega arith) w)
     ]
 
@@ -149,7 +149,7 @@ refused_library ask status before now run is =
     let found = solve_shows before.told ask due.ending due.files due.text due.due in
     elim found.2 [
       | inl w ↦ absurd (no_search w.answer (same_number status 3 due.ending (ending_of w.answer) is due.ended_so w.ending_is))
-      | inr w ↦ record { bytes = found.0; read = found.1; text = due.text; shows = w.1; printed = due.printed }
+      | inr w ↦ record { bytes = found.0; told = found.1; text = due.text; shows = w.1; printed = due.printed }
     ]
 
 -- the history of a search that was printed, and its log
@@ -160,7 +160,7 @@ only_file name text files before now is holds =
     one.whole 0 (name, text) (omega arith)
 
 searched_from : (ask : SolveWords) (status : Status) (before now : Seen) (due : Came ask status before now) (bytes : List ℕ) → IfSome (before.told ask.lib) (λ all. bytes ≡ all) → Found ask bytes due.ending due.files due.text
-    → ShowsSearch ask status (before.told ask.lib) (now.told ask.log) before.printed now.printed
+    → ShowsSearch ALONE ALONE ask status (before.told ask.lib) (now.told ask.log) before.printed now.printed
 searched_from ask status before now due bytes told w = record {
   bytes = bytes;
   told = told;
@@ -169,19 +169,19 @@ searched_from ask status before now due bytes told w = record {
   entries = w.entries;
   state = w.state;
   answer = w.answer;
-  legal = w.search.legal;
-  diligent = w.search.diligent;
-  no_reopen = w.search.no_reopen;
-  answers = w.search.answers;
+  search = w.search;
+  optimal = λ cost is. least_best w.lib ask.branchings ALONE ALONE w.entries w.state cost (subst (λ (a : Answer). IsSearch w.lib ask.branchings ALONE ALONE w.entries w.state a) is w.search);
+  infeasible = λ is. none_admissible w.lib ask.branchings ALONE ALONE w.entries w.state (subst (λ (a : Answer). IsSearch w.lib ask.branchings ALONE ALONE w.entries w.state a) is w.search);
+  best = best_admissible w.lib ask.branchings ALONE ALONE w.entries w.state w.answer w.search;
   ended_so = due.ended_so ∙ ap status_of w.ending_is;
   printed = subst (λ (t : List ℕ). Appends before.printed now.printed t) w.text_is due.printed;
   log = only_file ask.log (search_log w.lib ask.branchings w.entries w.state w.answer) due.files before now w.files_are due.holds;
-  passes = search_passes bytes w.lib ask.branchings ALONE w.entries w.state w.answer w.read w.search;
-  cuts_hold = cuts_hold w.lib ask.branchings ALONE w.entries w.state w.answer w.search;
-  at_limit = λ incumbent is. limit_spent w.lib ask.branchings ALONE w.entries w.state incumbent (subst (λ (a : Answer). IsSearch w.lib ask.branchings ALONE w.entries w.state a) is w.search);
+  passes = search_passes bytes w.lib ask.branchings ALONE ALONE w.entries w.state w.answer w.read w.search;
+  cuts_hold = cuts_hold w.lib ask.branchings ALONE ALONE w.entries w.state w.answer w.search;
+  at_limit = λ incumbent is. limit_spent w.lib ask.branchings ALONE ALONE w.entries w.state incumbent (subst (λ (a : Answer). IsSearch w.lib ask.branchings ALONE ALONE w.entries w.state a) is w.search);
 }
 
-searched_as : (n : ℕ) (ask : SolveWords) (status : Status) (before now : Seen) → Solving ask status before now → status ≡ record { 0 = n } → n ≢ 3 → n ≢ 5 → n ≢ 6 → n ≢ 7 → ShowsSearch ask status (before.told ask.lib) (now.told ask.log) before.printed now.printed
+searched_as : (n : ℕ) (ask : SolveWords) (status : Status) (before now : Seen) → Solving ask status before now → status ≡ record { 0 = n } → n ≢ 3 → n ≢ 5 → n ≢ 6 → n ≢ 7 → ShowsSearch ALONE ALONE ask status (before.told ask.lib) (now.told ask.log) before.printed now.printed
 searched_as n ask status before now run is three five six seven =
     let due : Came ask status before now = as_due _ status before now n run.goes.ended is five six seven in
     let found = solve_shows before.told ask due.ending due.files due.text due.due in
@@ -190,7 +190,7 @@ searched_as n ask status before now run is three five six seven =
       | inr w ↦ absurd (not_refused n status found.0 due.text due.ending due.files is due.ended_so three w)
     ]
 
-pub searched : (ask : SolveWords) (status : Status) (before now : Seen) → Solving ask status before now → Answered status → ShowsSearch ask status (before.told ask.lib) (now.told ask.log) before.printed now.printed
+pub searched : (ask : SolveWords) (status : Status) (before now : Seen) → Solving ask status before now → Answered status → ShowsSearch ALONE ALONE ask status (before.told ask.lib) (now.told ask.log) before.printed now.printed
 searched ask status before now run answered = elim answered [
   | inl is ↦ searched_as 0 ask status before now run is (λ e. omega arith) (λ e. omega arith) (λ e. omega arith) (λ e. omega arith)
   | inr more ↦ elim more [
@@ -205,7 +205,7 @@ read_rose ask status before now run is =
     let P : List ℕ → Type 0 = λ n. Rose (before.reads n) (now.reads n) in
     subst P (solve_reads before.told ask read.name read.due) read.rose
 
-shows_answer : (ask : SolveWords) (bytes : List ℕ) (ending : Ending) (files : List (List ℕ × List ℕ)) (text : List ℕ) → SolveShows ask bytes ending files text → ShowsAnswer ask.branchings bytes text
+shows_answer : (ask : SolveWords) (bytes : List ℕ) (ending : Ending) (files : List (List ℕ × List ℕ)) (text : List ℕ) → SolveShows ask bytes ending files text → ShowsReport ask.branchings bytes text
 shows_answer ask bytes ending files text shows = elim shows [ inl w ↦ answer_if ask bytes text w.lib w.entries w.state w.answer w.read w.search w.text_is | inr w ↦ inr (inr (inr w.1)) ]
 
 -- where nothing was printed, the front of a text without bytes was
@@ -216,17 +216,17 @@ nothing_more before (Some bytes) is = (bytes, sym is, sym (append-nil bytes))
 cut_text : (files : List (List ℕ × List ℕ)) (text : List ℕ) (before now : Seen) → FailsAtFile files before now ⊎ FailsAtText files text before now → PrintsFrontOf text before now
 cut_text files text before now cause = elim cause [ inl w ↦ ([], text, refl, nothing_more before.printed now.printed w.printed) | inr w ↦ w.printed ]
 
-pub cut : (ask : SolveWords) (status : Status) (before now : Seen) → Solving ask status before now → status ≡ status_of write_fault → PrintsFront (ShowsAnswer ask.branchings) (before.told ask.lib) before.printed now.printed
+pub cut : (ask : SolveWords) (status : Status) (before now : Seen) → Solving ask status before now → status ≡ status_of write_fault → PrintsFront (ShowsReport ask.branchings) (before.told ask.lib) before.printed now.printed
 cut ask status before now run is =
     let w : FailsToWrite (ComesTo before.told (Ok (solve ask))) status before now = as_write _ status before now run.goes.ended is in
     let found = solve_shows before.told ask w.ending w.files w.text w.due in
     let part = cut_text w.files w.text before now w.cause in
-    let P : List ℕ → Type 0 = ShowsAnswer ask.branchings found.0 in
-    record { bytes = found.0; read = found.1; front = part.0; rest = part.1; shows = subst P part.2 (shows_answer ask found.0 w.ending w.files w.text found.2); printed = part.3 }
+    let P : List ℕ → Type 0 = ShowsReport ask.branchings found.0 in
+    record { bytes = found.0; told = found.1; front = part.0; rest = part.1; shows = subst P part.2 (shows_answer ask found.0 w.ending w.files w.text found.2); printed = part.3 }
 
 -- what is left under the log's name by a run that stopped before its end
 front_at : (ask : SolveWords) (told log_before log_now : Option (List ℕ)) (bytes text : List ℕ) (ending : Ending) (files : List (List ℕ × List ℕ)) → IfSome told (λ all. bytes ≡ all) → (w : Found ask bytes ending files text)
-    → (log_now ≡ log_before) ⊎ IfSome log_now (λ front. (rest : List ℕ) × (search_log w.lib ask.branchings w.entries w.state w.answer ≡ front ++ rest)) → LeavesLog ask told log_before log_now
+    → (log_now ≡ log_before) ⊎ IfSome log_now (λ front. (rest : List ℕ) × (search_log w.lib ask.branchings w.entries w.state w.answer ≡ front ++ rest)) → LeavesLog ALONE ALONE ask told log_before log_now
 front_at ask told log_before None bytes text ending files reads w left = inr tt
 front_at ask told log_before (Some front) bytes text ending files reads w left = elim left [
   | inl same ↦ inl same
@@ -263,19 +263,38 @@ nothing_in files name none has =
     let it : Contains (names_of []) name = subst P none has in
     absurd (omega (arith, it.1))
 
-left_by_fronts : (ask : SolveWords) (before now : Seen) (ending : Ending) (files : List (List ℕ × List ℕ)) (text : List ℕ) → Shown before.told ask ending files text → HoldsFronts files before now → LeavesLog ask (before.told ask.lib) (before.told ask.log) (now.told ask.log)
+-- where the log couldn't be written, nothing was printed
+pub unlogged : (ask : SolveWords) (status : Status) (before now : Seen) → Solving ask status before now → status ≡ status_of write_fault → (Rose before.prints now.prints → ⊥) → now.printed ≡ before.printed
+unlogged ask status before now run is calm =
+    let w : FailsToWrite (ComesTo before.told (Ok (solve ask))) status before now = as_write _ status before now run.goes.ended is in
+    elim w.cause [ inl at_file ↦ at_file.printed | inr at_text ↦ absurd (calm at_text.rose) ]
+
+-- where the library is refused or can't be read, the log stays as it was
+pub log_stays : (ask : SolveWords) (status : Status) (before now : Seen) → Solving ask status before now → (status ≡ status_of library_refused) ⊎ (status ≡ status_of read_fault) → now.told ask.log ≡ before.told ask.log
+log_stays ask status before now run is = elim is [
+  | inl three ↦
+      let due : Came ask status before now = as_due _ status before now 3 run.goes.ended three (λ e. omega arith) (λ e. omega arith) (λ e. omega arith) in
+      let found = solve_shows before.told ask due.ending due.files due.text due.due in
+      elim found.2 [
+        | inl w ↦ absurd (no_search w.answer (same_number status 3 due.ending (ending_of w.answer) three due.ended_so w.ending_is))
+        | inr w ↦ due.holds.others ask.log (λ has. nothing_in due.files ask.log w.2 has)
+      ]
+  | inr five ↦ let read : FailsToRead (ComesTo before.told (Ok (solve ask))) status before now = as_read _ status before now run.goes.ended five in read.kept ask.log
+]
+
+left_by_fronts : (ask : SolveWords) (before now : Seen) (ending : Ending) (files : List (List ℕ × List ℕ)) (text : List ℕ) → Shown before.told ask ending files text → HoldsFronts files before now → LeavesLog ALONE ALONE ask (before.told ask.lib) (before.told ask.log) (now.told ask.log)
 left_by_fronts ask before now ending files text found holds = elim found.2 [
   | inl w ↦ front_at ask (before.told ask.lib) (before.told ask.log) (now.told ask.log) found.0 text ending files found.1 w (front_of_one ask.log (search_log w.lib ask.branchings w.entries w.state w.answer) files before now w.files_are holds)
   | inr w ↦ inl (holds.others ask.log (λ has. nothing_in files ask.log w.2 has))
 ]
 
-left_by_all : (ask : SolveWords) (before now : Seen) (ending : Ending) (files : List (List ℕ × List ℕ)) (text : List ℕ) → Shown before.told ask ending files text → HoldsAll files before now → LeavesLog ask (before.told ask.lib) (before.told ask.log) (now.told ask.log)
+left_by_all : (ask : SolveWords) (before now : Seen) (ending : Ending) (files : List (List ℕ × List ℕ)) (text : List ℕ) → Shown before.told ask ending files text → HoldsAll files before now → LeavesLog ALONE ALONE ask (before.told ask.lib) (before.told ask.log) (now.told ask.log)
 left_by_all ask before now ending files text found holds = elim found.2 [
   | inl w ↦ front_at ask (before.told ask.lib) (before.told ask.log) (now.told ask.log) found.0 text ending files found.1 w (inr (whole_front (now.told ask.log) (search_log w.lib ask.branchings w.entries w.state w.answer) (only_file ask.log (search_log w.lib ask.branchings w.entries w.state w.answer) files before now w.files_are holds)))
   | inr w ↦ inl (holds.others ask.log (λ has. nothing_in files ask.log w.2 has))
 ]
 
-left_by_write : (ask : SolveWords) (status : Status) (before now : Seen) → FailsToWrite (ComesTo before.told (Ok (solve ask))) status before now → LeavesLog ask (before.told ask.lib) (before.told ask.log) (now.told ask.log)
+left_by_write : (ask : SolveWords) (status : Status) (before now : Seen) → FailsToWrite (ComesTo before.told (Ok (solve ask))) status before now → LeavesLog ALONE ALONE ask (before.told ask.lib) (before.told ask.log) (now.told ask.log)
 left_by_write ask status before now w =
     let found = solve_shows before.told ask w.ending w.files w.text w.due in
     elim w.cause [
@@ -283,10 +302,10 @@ left_by_write ask status before now w =
       | inr at_text ↦ left_by_all ask before now w.ending w.files w.text found at_text.holds
     ]
 
-left_by_memory : (ask : SolveWords) (status : Status) (before now : Seen) → WantsMemory (ComesTo before.told (Ok (solve ask))) status before now → LeavesLog ask (before.told ask.lib) (before.told ask.log) (now.told ask.log)
+left_by_memory : (ask : SolveWords) (status : Status) (before now : Seen) → WantsMemory (ComesTo before.told (Ok (solve ask))) status before now → LeavesLog ALONE ALONE ask (before.told ask.lib) (before.told ask.log) (now.told ask.log)
 left_by_memory ask status before now w = elim w.holds [ inl same ↦ inl (same ask.log) | inr part ↦ left_by_fronts ask before now part.0 part.1 part.2 (solve_shows before.told ask part.0 part.1 part.2 part.3) part.4 ]
 
-pub leaves_log : (ask : SolveWords) (status : Status) (before now : Seen) → Solving ask status before now → (status ≡ status_of write_fault) ⊎ (status ≡ status_of no_memory) → LeavesLog ask (before.told ask.lib) (before.told ask.log) (now.told ask.log)
+pub leaves_log : (ask : SolveWords) (status : Status) (before now : Seen) → Solving ask status before now → (status ≡ status_of write_fault) ⊎ (status ≡ status_of no_memory) → LeavesLog ALONE ALONE ask (before.told ask.lib) (before.told ask.log) (now.told ask.log)
 leaves_log ask status before now run is = elim is [
   | inl six ↦ left_by_write ask status before now (as_write _ status before now run.goes.ended six)
   | inr seven ↦ left_by_memory ask status before now (as_memory _ status before now run.goes.ended seven)
@@ -306,7 +325,7 @@ Completed limit status answer = MatchResult answer (λ lib. Solves lib limit sta
 without_memory : (limit : ℕ) (answer : Result LibraryParts LibFault) (status : Status) → status ≡ status_of no_memory → Completed limit status answer
 without_memory limit (Ok lib) status is = record {
   ends = inr (inr (inr is));
-  optimal = λ e. absurd (apart status 7 0 is e (λ t. omega arith));
+  one_meets = λ e. absurd (apart status 7 0 is e (λ t. omega arith));
   none_meets = λ e. absurd (apart status 7 1 is e (λ t. omega arith));
   enough = λ far e. absurd (apart status 7 2 is e (λ t. omega arith));
 }
@@ -315,25 +334,25 @@ without_memory limit (Err fault) status is = inr is
 too_short : (limit far : ℕ) → limit < far → far ≤ limit → ⊥
 too_short limit far short enough = omega arith
 
-solves : (ask : SolveWords) (bytes : List ℕ) (lib : LibraryParts) (entries : List Entry) (state : SearchState) (answer : Answer) (status : Status) → library_of bytes ≡ Ok lib → IsSearch lib ask.branchings ALONE entries state answer → status ≡ status_of (ending_of answer)
+solves : (ask : SolveWords) (bytes : List ℕ) (lib : LibraryParts) (entries : List Entry) (state : SearchState) (answer : Answer) (status : Status) → library_of bytes ≡ Ok lib → IsSearch lib ask.branchings ALONE ALONE entries state answer → status ≡ status_of (ending_of answer)
     → Solves lib ask.branchings status
 solves ask bytes lib entries state (Optimal cost) status read is ended = record {
   ends = inl ended;
-  optimal = λ e. some_admissible lib ask.branchings ALONE entries state cost is;
+  one_meets = λ e. some_admissible lib ask.branchings ALONE ALONE entries state cost is;
   none_meets = λ e. absurd (apart status 0 1 ended e (λ t. omega arith));
   enough = λ far e. absurd (apart status 0 2 ended e (λ t. omega arith));
 }
 solves ask bytes lib entries state Infeasible status read is ended = record {
   ends = inr (inl ended);
-  optimal = λ e. absurd (apart status 1 0 ended e (λ t. omega arith));
-  none_meets = λ e. none_admissible lib ask.branchings ALONE entries state is;
+  one_meets = λ e. absurd (apart status 1 0 ended e (λ t. omega arith));
+  none_meets = λ e. none_admissible lib ask.branchings ALONE ALONE entries state is;
   enough = λ far e. absurd (apart status 1 2 ended e (λ t. omega arith));
 }
 solves ask bytes lib entries state (NodeLimit incumbent) status read is ended = record {
   ends = inr (inr (inl ended));
-  optimal = λ e. absurd (apart status 2 0 ended e (λ t. omega arith));
+  one_meets = λ e. absurd (apart status 2 0 ended e (λ t. omega arith));
   none_meets = λ e. absurd (apart status 2 1 ended e (λ t. omega arith));
-  enough = λ far e. too_short ask.branchings (2 ^ member_count lib) (limit_spent lib ask.branchings ALONE entries state incumbent is).short far;
+  enough = λ far e. too_short ask.branchings (2 ^ member_count lib) (limit_spent lib ask.branchings ALONE ALONE entries state incumbent is).short far;
 }
 
 shown_completes : (ask : SolveWords) (bytes : List ℕ) (ending : Ending) (files : List (List ℕ × List ℕ)) (text : List ℕ) (status : Status) → status ≡ status_of ending → SolveShows ask bytes ending files text → Completes ask.branchings bytes status
@@ -358,6 +377,38 @@ completes ask bytes status before now run tells reads writes prints = elim run.g
     | inr more ↦ elim more [
       | inl w ↦ elim (write_rose_at ask status before now run w.ended_so) [ inl rose ↦ absurd (prints rose) | inr rose ↦ absurd (writes rose) ]
       | inr w ↦ without_memory ask.branchings (library_of bytes) status w.ended_so
+    ]
+  ]
+]
+
+-- bytes that are no library are always refused, whether LOG can be written or not
+never_both : (answer : Result LibraryParts LibFault) (lib : LibraryParts) (fault : LibFault) → answer ≡ Ok lib → answer ≡ Err fault → ⊥
+never_both answer lib fault good bad = cc
+
+shown_refused : (ask : SolveWords) (bytes : List ℕ) (fault : LibFault) (ending : Ending) (files : List (List ℕ × List ℕ)) (text : List ℕ) → library_of bytes ≡ Err fault → SolveShows ask bytes ending files text → Refused bytes ending files text
+shown_refused ask bytes fault ending files text bad shows = elim shows [ inl w ↦ absurd (never_both (library_of bytes) w.lib fault w.read bad) | inr w ↦ w ]
+
+found_refused : (ask : SolveWords) (bytes : List ℕ) (fault : LibFault) (ending : Ending) (files : List (List ℕ × List ℕ)) (text : List ℕ) (told : List ℕ → Option (List ℕ)) → told ask.lib ≡ Some bytes → library_of bytes ≡ Err fault → ComesTo told (Ok (solve ask)) (ends ending files text)
+    → (ending ≡ library_refused) × (files ≡ [])
+found_refused ask bytes fault ending files text told tells bad comes =
+    let found = solve_shows told ask ending files text comes in
+    let F : Option (List ℕ) → Type 0 = λ o. IfSome o (λ all. found.0 ≡ all) in
+    let same : found.0 ≡ bytes = subst F tells found.1 in
+    let P : List ℕ → Type 0 = λ b. library_of b ≡ Err fault in
+    let refused : Refused found.0 ending files text = shown_refused ask found.0 fault ending files text (subst P (sym same) bad) found.2 in
+    (refused.0, refused.2)
+
+pub always_refused : (ask : SolveWords) (bytes : List ℕ) (fault : LibFault) (status : Status) (before now : Seen) → Solving ask status before now → before.told ask.lib ≡ Some bytes → library_of bytes ≡ Err fault
+    → (Rose (before.reads ask.lib) (now.reads ask.lib) → ⊥) → (Rose before.prints now.prints → ⊥) → (status ≡ status_of library_refused) ⊎ (status ≡ status_of no_memory)
+always_refused ask bytes fault status before now run tells bad reads prints = elim run.goes.ended [
+  | inl w ↦ inl (w.ended_so ∙ ap status_of (found_refused ask bytes fault w.ending w.files w.text before.told tells bad w.due).0)
+  | inr faults ↦ elim faults [
+    | inl w ↦ absurd (reads (read_rose ask status before now run w.ended_so))
+    | inr more ↦ elim more [
+      | inl w ↦
+          let none = (found_refused ask bytes fault w.ending w.files w.text before.told tells bad w.due).1 in
+          elim w.cause [ inl at_file ↦ absurd (nothing_in w.files at_file.name none at_file.due) | inr at_text ↦ absurd (prints at_text.rose) ]
+      | inr w ↦ inr w.ended_so
     ]
   ]
 ]

@@ -95,7 +95,7 @@ refused_library lib arch sink status before now run is =
     let due : EndsAsDue (ComesTo before.told (Ok (probability lib arch sink))) status before now = as_due _ status before now 3 run.goes.ended is (λ e. omega arith) (λ e. omega arith) (λ e. omega arith) in
     let found = mass_shows before.told lib arch sink due.ending due.files due.text due.due in
     elim found.2 [
-      | inl w ↦ record { bytes = found.0; read = found.1; text = due.text; shows = w.1; printed = due.printed }
+      | inl w ↦ record { bytes = found.0; told = found.1; text = due.text; shows = w.1; printed = due.printed }
       | inr w ↦ elim w.2 [
         | inl v ↦ absurd (not_of status 3 due.ending done is due.ended_so v.0 (λ e. omega arith))
         | inr more ↦ elim more [

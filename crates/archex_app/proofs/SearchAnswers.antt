@@ -32,13 +32,13 @@ use Rattle.archex_app.specs.Answer.{ShowsCheapest, ShowsInfeasible, ShowsNodeLim
 use Rattle.archex_app.specs.Searched.{CutHolds, IsLimitSpent}
 
 -- what is kept of the state to which a history leads
-pub invariant_at : (lib : LibraryParts) (limit analysts : ℕ) (entries : List Entry) (state : SearchState) (answer : Answer) → IsSearch lib limit analysts entries state answer → (before : List Entry) (mid : SearchState) → Reaches (base_problem lib) limit before mid
+pub invariant_at : (lib : LibraryParts) (limit workers analysts : ℕ) (entries : List Entry) (state : SearchState) (answer : Answer) → IsSearch lib limit workers analysts entries state answer → (before : List Entry) (mid : SearchState) → Reaches (base_problem lib) limit before mid
     → SearchInvariant (base_problem lib) mid
-invariant_at lib limit analysts entries state answer is before mid reached = (reached_is_kept (base_problem lib) is.library is.problem (right_cuts lib is.library) mid (limit, before, reached)).holds
+invariant_at lib limit workers analysts entries state answer is before mid reached = (reached_is_kept (base_problem lib) is.library is.problem (right_cuts lib is.library) mid (limit, before, reached)).holds
 
-module _ (lib : LibraryParts) (limit analysts : ℕ) (entries : List Entry) (state : SearchState) where
-  invariant : (answer : Answer) → IsSearch lib limit analysts entries state answer → SearchInvariant (base_problem lib) state
-  invariant answer is = invariant_at lib limit analysts entries state answer is entries state is.legal
+module _ (lib : LibraryParts) (limit workers analysts : ℕ) (entries : List Entry) (state : SearchState) where
+  invariant : (answer : Answer) → IsSearch lib limit workers analysts entries state answer → SearchInvariant (base_problem lib) state
+  invariant answer is = invariant_at lib limit workers analysts entries state answer is entries state is.legal
 
   -- Optimal
   best_of : (cost : ℕ) (best : Option Best) → IsSomeAnd best (IsLeastBest lib cost) → (found : Best) × (best ≡ Some found) × IsLeastBest lib cost found
@@ -48,7 +48,7 @@ module _ (lib : LibraryParts) (limit analysts : ℕ) (entries : List Entry) (sta
   cheapest_by : (cost : ℕ) (found : Best) → IsLeastBest lib cost found → IsCheapest lib found.architecture
   cheapest_by cost found is = record { admissible = is.admissible; least = λ other can. subst (λ (n : ℕ). n ≤ cost_of lib other) (sym is.costs) (is.none_less other can) }
 
-  pub optimal_shows : (cost : ℕ) (bytes : List ℕ) → library_of bytes ≡ Ok lib → IsSearch lib limit analysts entries state (Optimal cost) → ShowsCheapest bytes (search_report lib state (Optimal cost))
+  pub optimal_shows : (cost : ℕ) (bytes : List ℕ) → library_of bytes ≡ Ok lib → IsSearch lib limit workers analysts entries state (Optimal cost) → ShowsCheapest bytes (search_report lib state (Optimal cost))
   optimal_shows cost bytes read is =
       let found = best_of cost state.best (optimal_is_least (base_problem lib) state (invariant (Optimal cost) is) cost is.answers) in
       record {
@@ -61,15 +61,18 @@ module _ (lib : LibraryParts) (limit analysts : ℕ) (entries : List Entry) (sta
         report = ap (λ (best : Option Best). report_text lib (Optimal cost) best state.branchings (length state.cuts)) found.1;
       }
 
-  pub some_admissible : (cost : ℕ) → IsSearch lib limit analysts entries state (Optimal cost) → (arch : ArchitectureParts) × IsAdmissible lib arch
+  pub least_best : (cost : ℕ) → IsSearch lib limit workers analysts entries state (Optimal cost) → IsSomeAnd state.best (IsLeastBest lib cost)
+  least_best cost is = optimal_is_least (base_problem lib) state (invariant (Optimal cost) is) cost is.answers
+
+  pub some_admissible : (cost : ℕ) → IsSearch lib limit workers analysts entries state (Optimal cost) → (arch : ArchitectureParts) × IsAdmissible lib arch
   some_admissible cost is =
       let found = best_of cost state.best (optimal_is_least (base_problem lib) state (invariant (Optimal cost) is) cost is.answers) in (found.0.architecture, found.2.admissible)
 
   -- Infeasible
-  pub none_admissible : IsSearch lib limit analysts entries state Infeasible → NoneAdmissible lib
+  pub none_admissible : IsSearch lib limit workers analysts entries state Infeasible → NoneAdmissible lib
   none_admissible is = infeasible_is_none (base_problem lib) state (invariant Infeasible is) is.answers
 
-  pub infeasible_shows : (bytes : List ℕ) → library_of bytes ≡ Ok lib → IsSearch lib limit analysts entries state Infeasible → ShowsInfeasible bytes (search_report lib state Infeasible)
+  pub infeasible_shows : (bytes : List ℕ) → library_of bytes ≡ Ok lib → IsSearch lib limit workers analysts entries state Infeasible → ShowsInfeasible bytes (search_report lib state Infeasible)
   infeasible_shows bytes read is = record {
     lib = lib;
     read = read;
@@ -80,22 +83,25 @@ module _ (lib : LibraryParts) (limit analysts : ℕ) (entries : List Entry) (sta
   }
 
   -- NodeLimit
-  best_admissible : (best : Option Best) → IfSome best (IsAdmissibleBest lib) → IfSome best (λ found. IsAdmissible lib found.architecture)
-  best_admissible None is = tt
-  best_admissible (Some found) is = is.admissible
+  pub best_admissible : (answer : Answer) → IsSearch lib limit workers analysts entries state answer → IfSome state.best (IsAdmissibleBest lib)
+  best_admissible answer is = (invariant answer is).best_is_admissible
 
-  limit_is : (answer : Answer) → IsSearch lib limit analysts entries state answer → state.limit ≡ limit
+  architecture_admissible : (best : Option Best) → IfSome best (IsAdmissibleBest lib) → IfSome best (λ found. IsAdmissible lib found.architecture)
+  architecture_admissible None is = tt
+  architecture_admissible (Some found) is = is.admissible
+
+  limit_is : (answer : Answer) → IsSearch lib limit workers analysts entries state answer → state.limit ≡ limit
   limit_is answer is = limit_stays (base_problem lib) entries (start_of limit) state (recursion_from_All (λ entry. is_reopen entry ≡ false) entries is.no_reopen) is.legal.steps
 
-  spent : (incumbent : Option ℕ) → IsSearch lib limit analysts entries state (NodeLimit incumbent) → IsAtLimit state
+  spent : (incumbent : Option ℕ) → IsSearch lib limit workers analysts entries state (NodeLimit incumbent) → IsAtLimit state
   spent incumbent is = (limit_is_spent (base_problem lib) state (invariant (NodeLimit incumbent) is) incumbent is.answers).0
 
-  pub limit_shows : (incumbent : Option ℕ) (bytes : List ℕ) → library_of bytes ≡ Ok lib → IsSearch lib limit analysts entries state (NodeLimit incumbent) → ShowsNodeLimit limit bytes (search_report lib state (NodeLimit incumbent))
+  pub limit_shows : (incumbent : Option ℕ) (bytes : List ℕ) → library_of bytes ≡ Ok lib → IsSearch lib limit workers analysts entries state (NodeLimit incumbent) → ShowsNodeLimit limit bytes (search_report lib state (NodeLimit incumbent))
   limit_shows incumbent bytes read is = record {
     lib = lib;
     read = read;
     best = state.best;
-    admissible = best_admissible state.best (invariant (NodeLimit incumbent) is).best_is_admissible;
+    admissible = architecture_admissible state.best (invariant (NodeLimit incumbent) is).best_is_admissible;
     cuts = length state.cuts;
     report = ap (λ n. report_text lib (NodeLimit incumbent) state.best n (length state.cuts)) ((spent incumbent is).spent ∙ limit_is (NodeLimit incumbent) is);
   }
@@ -106,7 +112,7 @@ module _ (lib : LibraryParts) (limit analysts : ℕ) (entries : List Entry) (sta
   below : (far : ℕ) → (far ≤ limit → ⊥) → limit < far
   below far h = omega arith
 
-  pub limit_spent : (incumbent : Option ℕ) → IsSearch lib limit analysts entries state (NodeLimit incumbent) → IsLimitSpent lib limit entries state
+  pub limit_spent : (incumbent : Option ℕ) → IsSearch lib limit workers analysts entries state (NodeLimit incumbent) → IsLimitSpent lib limit entries state
   limit_spent incumbent is =
       let at = spent incumbent is in
       let same = limit_is (NodeLimit incumbent) is in
@@ -127,13 +133,13 @@ of_last : {X : Type 0} (P : X → Type 0) (xs : List X) (x : X) → All P (xs ++
 of_last P xs x all = last_of P xs x (recursion_from_All P (xs ++ x ∷ []) all)
 
 -- the cuts
-module _ (lib : LibraryParts) (limit analysts : ℕ) (entries : List Entry) (state : SearchState) (answer : Answer) (is : IsSearch lib limit analysts entries state answer) where
+module _ (lib : LibraryParts) (limit workers analysts : ℕ) (entries : List Entry) (state : SearchState) (answer : Answer) (is : IsSearch lib limit workers analysts entries state answer) where
   published_holds : (before : List Entry) (mid next : SearchState) (worker node : ℕ) (cut : Cut) → Steps (base_problem lib) (start_of limit) before mid → Step (base_problem lib) mid (Publish worker node cut) next → CutHolds lib limit before worker node cut
   published_holds before mid next worker node cut leads step =
       let by : Publishes (base_problem lib) mid worker node cut next = step.fits in
       let row = cut_row_of lib cut (candidate_of lib by.study.cube) in
       let on : Steps (base_problem lib) (start_of limit) (before ++ Publish worker node cut ∷ []) next = steps_join (base_problem lib) before (Publish worker node cut ∷ []) (start_of limit) mid next leads (next, step, refl) in
-      let inv = invariant_at lib limit analysts entries state answer is (before ++ Publish worker node cut ∷ []) next (record { few = is.legal.few; steps = on }) in
+      let inv = invariant_at lib limit workers analysts entries state answer is (before ++ Publish worker node cut ∷ []) next (record { few = is.legal.few; steps = on }) in
       record {
         state = mid;
         reached = record { few = is.legal.few; steps = leads };

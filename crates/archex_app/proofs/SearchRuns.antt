@@ -58,7 +58,7 @@ same_report lib state answer best branchings cuts b n k =
     ∙ ap (λ x. report_text lib answer state.best state.branchings x) k
 
 pub searched_is : (lib : LibraryParts) (limit : ℕ) (s : Searched) → s.problem ≡ base_problem lib → IsLibrary s.problem.library → IsProblem s.problem → IsSolved s.problem limit 1 1 s.solved → s.report.status ≡ status_of (ending_of s.solved.answer)
-    → cow_slice_items s.report.text ≡ report_text s.problem.library s.solved.answer s.solved.best s.solved.branchings s.solved.cuts → IsSearched lib limit ALONE s
+    → cow_slice_items s.report.text ≡ report_text s.problem.library s.solved.answer s.solved.best s.solved.branchings s.solved.cuts → IsSearched lib limit ALONE ALONE s
 searched_is lib limit s same library is of ended text =
     let over : IsSolved (base_problem lib) limit 1 1 s.solved = subst (λ (p : ProblemParts). IsSolved p limit 1 1 s.solved) same of in
     record {
@@ -70,6 +70,7 @@ searched_is lib limit s same library is of ended text =
         legal = over.legal;
         diligent = over.diligent;
         no_reopen = over.no_reopen;
+        workers_below = over.workers_below;
         answers = over.answer;
       };
       branchings = over.branchings;
@@ -79,7 +80,7 @@ searched_is lib limit s same library is of ended text =
     }
 
 -- its log is the log of a search
-same_log : (lib : LibraryParts) (limit : ℕ) (s : Searched) (is : IsSearched lib limit ALONE s) → log_text_of s.problem limit s.solved.history.entries s.solved.answer s.solved.branchings s.solved.cuts ≡ search_log lib limit s.solved.history.entries is.state s.solved.answer
+same_log : (lib : LibraryParts) (limit : ℕ) (s : Searched) (is : IsSearched lib limit ALONE ALONE s) → log_text_of s.problem limit s.solved.history.entries s.solved.answer s.solved.branchings s.solved.cuts ≡ search_log lib limit s.solved.history.entries is.state s.solved.answer
 same_log lib limit s is =
     ap (λ (p : ProblemParts). log_text_of p limit s.solved.history.entries s.solved.answer s.solved.branchings s.solved.cuts) is.problem
     ∙ ap (λ n. log_text_of (base_problem lib) limit s.solved.history.entries s.solved.answer n s.solved.cuts) is.branchings
@@ -94,11 +95,11 @@ settled_so (NodeLimit incumbent) = tt
 one_due : {e : Ending} {name a b text report : List ℕ} → a ≡ b → text ≡ report → ends e ((name, a) ∷ []) text ≡ ends e ((name, b) ∷ []) report
 one_due {e} {name} {a} {b} {text} {report} same is = ap (λ (l : List ℕ). ends e ((name, l) ∷ []) text) same ∙ ap (λ (t : List ℕ). ends e ((name, b) ∷ []) t) is
 
-pub search_comes : (told : List ℕ → Option (List ℕ)) (ask : SolveWords) (s : Searched) → IsSearchedUnder (told ask.lib) ask.branchings ALONE s
+pub search_comes : (told : List ℕ → Option (List ℕ)) (ask : SolveWords) (s : Searched) → IsSearchedUnder (told ask.lib) ask.branchings ALONE ALONE s
     → CommandComesTo told (solve ask) (ends (ending_of s.solved.answer) ((ask.log, log_text_of s.problem ask.branchings s.solved.history.entries s.solved.answer s.solved.branchings s.solved.cuts) ∷ []) (cow_slice_items s.report.text))
 search_comes told ask s under =
     let due : Due = ends (ending_of s.solved.answer) ((ask.log, log_text_of s.problem ask.branchings s.solved.history.entries s.solved.answer s.solved.branchings s.solved.cuts) ∷ []) (cow_slice_items s.report.text) in
-    let P : Result LibraryParts LibFault → Type 0 = λ r. MatchResult r (λ l. SearchComesTo ask.log ask.branchings ALONE l due) (λ fault. EndsWith library_refused (refused_library_text fault) due) in
+    let P : Result LibraryParts LibFault → Type 0 = λ r. MatchResult r (λ l. SearchComesTo ask.log ask.branchings ALONE ALONE l due) (λ fault. EndsWith library_refused (refused_library_text fault) due) in
     inr (
       under.read.bytes,
       under.read.read,
@@ -106,7 +107,7 @@ search_comes told ask s under =
     )
 
 -- the run of a search that came to its end
-pub searched_run : {T : Type 0} (ask : SolveWords) (s : Searched) (written : Result T WriteError) (status : Status) (before now : Seen) → IsSearchedUnder (before.told ask.lib) ask.branchings ALONE s
+pub searched_run : {T : Type 0} (ask : SolveWords) (s : Searched) (written : Result T WriteError) (status : Status) (before now : Seen) → IsSearchedUnder (before.told ask.lib) ask.branchings ALONE ALONE s
     → WroteFile written ask.log (log_text_of s.problem ask.branchings s.solved.history.entries s.solved.answer s.solved.branchings s.solved.cuts) before now
     → Concludes written s.report status before.printed now.printed before.prints now.prints → before.prints ≤ now.prints → Runs (Ok (solve ask)) status before now
 searched_run ask s (Ok done) status before now under file concludes prints =
@@ -135,7 +136,7 @@ searched_run ask s (Err Memory) status before now under file concludes prints =
 pub stopped_run : (ask : SolveWords) (stop : Stop) (status : Status) (before now : Seen) → StopsAt library_of library_refused refused_library_text (before.told ask.lib) ask.lib stop before.reads now.reads
     → Finishes (Err stop) status before.printed now.printed before.prints now.prints → ((name : List ℕ) → now.told name ≡ before.told name) → NeverFall before.reads now.reads → Stay before.writes now.writes → before.prints ≤ now.prints → Runs (Ok (solve ask)) status before now
 stopped_run ask stop status before now stops finishes told rise writes prints =
-    finished (solve ask) (Err stop) status before now (stops_at library_of library_refused refused_library_text before.told ask.lib (SearchComesTo ask.log ask.branchings ALONE) stop before.reads now.reads tt stops) finishes told rise writes prints
+    finished (solve ask) (Err stop) status before now (stops_at library_of library_refused refused_library_text before.told ask.lib (SearchComesTo ask.log ask.branchings ALONE ALONE) stop before.reads now.reads tt stops) finishes told rise writes prints
 
 -- what is said of a library as it was lent
 pub library_same : (lent lib : LibraryParts) → lent ≡ lib → IsLibrary lent → IsLibrary lib

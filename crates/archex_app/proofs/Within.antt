@@ -130,8 +130,8 @@ ending_is_its_own (Optimal cost) = at_0 done (infeasible ∷ node_limit ∷ libr
 ending_is_its_own Infeasible = at_1 done infeasible (node_limit ∷ library_refused ∷ [])
 ending_is_its_own (NodeLimit incumbent) = at_2 done infeasible node_limit (library_refused ∷ [])
 
-search_within : (log : List ℕ) (limit analysts : ℕ) (l : LibraryParts) (reads : List (List ℕ)) → Within (λ due. SearchComesTo log limit analysts l due) (done ∷ infeasible ∷ node_limit ∷ library_refused ∷ []) reads (log ∷ [])
-search_within log limit analysts l reads = record {
+search_within : (log : List ℕ) (limit workers analysts : ℕ) (l : LibraryParts) (reads : List (List ℕ)) → Within (λ due. SearchComesTo log limit workers analysts l due) (done ∷ infeasible ∷ node_limit ∷ library_refused ∷ []) reads (log ∷ [])
+search_within log limit workers analysts l reads = record {
   ending = λ e f t is. let P : Ending → Type 0 = Contains (done ∷ infeasible ∷ node_limit ∷ library_refused ∷ []) in subst P (sym (same_ending is.4)) (ending_is_its_own is.2);
   written = λ e f t name is has. let P : List (List ℕ × List ℕ) → Type 0 = λ l. Contains (names_of l) name in subst P (same_files is.4) has;
   read = λ name is. absurd (no_read is.4);
@@ -145,8 +145,8 @@ sink_within sink l a read written =
 
 pub command_within : (told : List ℕ → Option (List ℕ)) (asked : Asked) → Its told asked
 command_within told (solve ask) =
-    reads_as_within library_of library_refused refused_library_text told ask.lib (SearchComesTo ask.log ask.branchings ALONE) _ _ _ (at_0 ask.lib []) (at_3 done infeasible node_limit library_refused [])
-    (λ l. search_within ask.log ask.branchings ALONE l (ask.lib ∷ []))
+    reads_as_within library_of library_refused refused_library_text told ask.lib (SearchComesTo ask.log ask.branchings ALONE ALONE) _ _ _ (at_0 ask.lib []) (at_3 done infeasible node_limit library_refused [])
+    (λ l. search_within ask.log ask.branchings ALONE ALONE l (ask.lib ∷ []))
 command_within told (probability lib arch sink) =
     reads_as_within library_of library_refused refused_library_text told lib (λ l. ReadsAs (architecture_of_bytes l) architecture_refused refused_architecture_text told arch (MassComesTo sink l)) _ _ _ (at_0 lib (arch ∷ []))
     (at_1 done library_refused (words_refused ∷ architecture_refused ∷ []))

@@ -45,21 +45,21 @@ pub record ShowsRefusal (bytes text : List ℕ) : Type 0 where
   pub report : text ≡ refused_library_text fault
 
 -- a text that shows one of the four
-abbrev pub ShowsAnswer : ℕ → List ℕ → List ℕ → Type 0
-ShowsAnswer limit bytes text = ShowsCheapest bytes text ⊎ (ShowsInfeasible bytes text ⊎ (ShowsNodeLimit limit bytes text ⊎ ShowsRefusal bytes text))
+abbrev pub ShowsReport : ℕ → List ℕ → List ℕ → Type 0
+ShowsReport limit bytes text = ShowsCheapest bytes text ⊎ (ShowsInfeasible bytes text ⊎ (ShowsNodeLimit limit bytes text ⊎ ShowsRefusal bytes text))
 
 -- a text was printed whole that shows a fact of a file's bytes: those that the shelf tells, or where it tells none, some bytes, of which nothing more is said
-pub record Prints (Shows : List ℕ → List ℕ → Type 0) (told before now : Option (List ℕ)) : Type 0 where
+pub record Prints (Shows : List ℕ → List ℕ → Type 0) (file_told before now : Option (List ℕ)) : Type 0 where
   pub bytes : List ℕ
-  pub read : IfSome told (λ all. bytes ≡ all)
+  pub told : IfSome file_told (λ all. bytes ≡ all)
   pub text : List ℕ
   pub shows : Shows bytes text
   pub printed : Appends before now text
 
 -- the front of such a text was printed
-pub record PrintsFront (Shows : List ℕ → List ℕ → Type 0) (told before now : Option (List ℕ)) : Type 0 where
+pub record PrintsFront (Shows : List ℕ → List ℕ → Type 0) (file_told before now : Option (List ℕ)) : Type 0 where
   pub bytes : List ℕ
-  pub read : IfSome told (λ all. bytes ≡ all)
+  pub told : IfSome file_told (λ all. bytes ≡ all)
   pub front : List ℕ
   pub rest : List ℕ
   pub shows : Shows bytes (front ++ rest)

@@ -41,13 +41,13 @@ OverSink lib name place Job due =
     ((sink : ℕ) × IsSinkNamed lib name sink × Job sink due)
     ⊎ (((sink : ℕ) → IsSinkNamed lib name sink → ⊥) × EndsWith words_refused (refused_words_text place) due)
 
--- what a search comes to: its log under a name, and the report of its answer
-abbrev pub SearchComesTo : List ℕ → ℕ → ℕ → LibraryParts → Due → Type 0
-SearchComesTo log limit analysts lib due =
-    (entries : List Entry) × (state : SearchState) × (answer : Answer) × IsSearch lib limit analysts entries state answer
+-- what a search by a team of workers and analysts comes to: its log under a name, and the report of its answer
+abbrev pub SearchComesTo : List ℕ → ℕ → ℕ → ℕ → LibraryParts → Due → Type 0
+SearchComesTo log limit workers analysts lib due =
+    (entries : List Entry) × (state : SearchState) × (answer : Answer) × IsSearch lib limit workers analysts entries state answer
     × (due ≡ ends (ending_of answer) ((log, search_log lib limit entries state answer) ∷ []) (search_report lib state answer))
 
--- how many analysts there are where one worker searches
+-- how many workers there are, and how many analysts, where one worker searches
 abbrev pub ALONE : ℕ
 ALONE = 1
 
@@ -57,7 +57,7 @@ MassComesTo sink lib arch due = OverSink lib sink 4 (λ s. EndsWith done (mass_t
 
 -- what a command comes to
 abbrev pub CommandComesTo : (List ℕ → Option (List ℕ)) → Asked → Due → Type 0
-CommandComesTo told (solve ask) due = OverLibrary told ask.lib (SearchComesTo ask.log ask.branchings ALONE) due
+CommandComesTo told (solve ask) due = OverLibrary told ask.lib (SearchComesTo ask.log ask.branchings ALONE ALONE) due
 CommandComesTo told (probability lib arch sink) due = OverArchitecture told lib arch (MassComesTo sink) due
 
 -- what words come to: their command, or the refusal for the first that isn't as it should be

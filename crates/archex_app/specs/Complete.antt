@@ -10,7 +10,7 @@ use Rattle.archex_app.specs.Status.{status_of, done, infeasible, node_limit, lib
 -- a library that was read is searched under a limit of branchings, unless there was no memory: Optimal comes only where an architecture is admissible, Infeasible only where none is, and NodeLimit only where the limit is less than the number of vectors over its members
 pub record Solves (lib : LibraryParts) (limit : ℕ) (status : Status) : Type 0 where
   pub ends : (status ≡ status_of done) ⊎ ((status ≡ status_of infeasible) ⊎ ((status ≡ status_of node_limit) ⊎ (status ≡ status_of no_memory)))
-  pub optimal : status ≡ status_of done → (arch : ArchitectureParts) × IsAdmissible lib arch
+  pub one_meets : status ≡ status_of done → (arch : ArchitectureParts) × IsAdmissible lib arch
   pub none_meets : status ≡ status_of infeasible → (arch : ArchitectureParts) → IsAdmissible lib arch → ⊥
   pub enough : 2 ^ member_count lib ≤ limit → status ≡ status_of node_limit → ⊥
 

@@ -1,6 +1,7 @@
 -- What a run of `solve` that came to an answer shows: one history of a search, and what holds of it.
 use Rattle.std.specs.Prelude.{◌≡◌, ℕ, ◌^◌, ◌<◌, Option, Some, List, ◌∷◌, ◌++◌, ◌⊎◌, filter, length, Ok, IfSome}
 use Rattle.std.specs.FinMap.{get}
+use Rattle.std.specs.Option.{IsSomeAnd}
 use Rattle.outside.specs.Told.{Appends}
 use Rattle.arch_model.specs.Parts.{LibraryParts}
 use Rattle.arch_model.specs.Member.{member_count}
@@ -11,22 +12,20 @@ use Rattle.redundancy_cut.specs.CutRow.{cut_row_of}
 use Rattle.search_core.specs.declared.entry.Entry.{Entry}
 use Rattle.search_core.specs.declared.entry.Entry.TheVariants.{Publish}
 use Rattle.search_core.specs.declared.answer.Answer.{Answer}
-use Rattle.search_core.specs.declared.answer.Answer.TheVariants.{NodeLimit}
+use Rattle.search_core.specs.declared.answer.Answer.TheVariants.{Optimal, Infeasible, NodeLimit}
 use Rattle.search_core.specs.Node.{Parked}
-use Rattle.search_core.specs.State.{SearchState, start_of}
+use Rattle.search_core.specs.State.{SearchState}
 use Rattle.search_core.specs.Candidate.{candidate_of}
 use Rattle.search_core.specs.Step.{IsStudied}
-use Rattle.search_core.specs.History.{Reaches, HasNoReopen, is_branch}
-use Rattle.search_core.specs.Diligent.{IsDiligent}
-use Rattle.search_core.specs.Answers.{answer_of}
-use Rattle.search_core.specs.Invariant.{HoldsInAll}
+use Rattle.search_core.specs.History.{Reaches, is_branch}
+use Rattle.search_core.specs.Invariant.{IsAdmissibleBest, HoldsInAll}
+use Rattle.search_core.specs.Solved.{IsLeastBest, NoneAdmissible}
 use Rattle.proof_log.specs.Log.{Accepts}
 use Rattle.archex_app.specs.declared.status.Status.{Status}
 use Rattle.archex_app.specs.Status.{status_of, done, infeasible, node_limit}
 use Rattle.archex_app.specs.Words.{SolveWords}
 use Rattle.archex_app.specs.Report.{ending_of, search_report}
 use Rattle.archex_app.specs.Search.{base_problem, IsSearch, search_log}
-use Rattle.archex_app.specs.ComesTo.{ALONE}
 
 -- a run of `solve` came to an answer: Optimal, Infeasible or NodeLimit
 abbrev pub Answered : Status → Type 0
@@ -47,8 +46,8 @@ pub record IsLimitSpent (lib : LibraryParts) (limit : ℕ) (entries : List Entry
   pub cube : CubeParts
   pub parked : get state.nodes number ≡ Some (Parked cube)
 
--- what a run shows with these words and this status, from what the shelf told of the library at the start, what it tells of the log at the end, and what was printed before and after
-pub record ShowsSearch (ask : SolveWords) (status : Status) (lib_told log_told before now : Option (List ℕ)) : Type 0 where
+-- what a run by a team of workers and analysts shows with these words and this status, from what the shelf told of the library at the start, what it tells of the log at the end, and what was printed before and after
+pub record ShowsSearch (workers analysts : ℕ) (ask : SolveWords) (status : Status) (lib_told log_told before now : Option (List ℕ)) : Type 0 where
   -- the library that was read: that of the bytes that the shelf told, or where it told none, of some bytes
   pub bytes : List ℕ
   pub told : IfSome lib_told (λ all. bytes ≡ all)
@@ -58,12 +57,17 @@ pub record ShowsSearch (ask : SolveWords) (status : Status) (lib_told log_told b
   pub entries : List Entry
   pub state : SearchState
   pub answer : Answer
-  -- the history is legal for the library and the limit, diligent for one analyst, and changes no limit
-  pub legal : Reaches (base_problem lib) ask.branchings entries state
-  pub diligent : IsDiligent (base_problem lib) ALONE (start_of ask.branchings) entries
-  pub no_reopen : HasNoReopen entries
-  -- the answer is the state's, and the status is the answer's
-  pub answers : answer_of state ≡ Some answer
+  -- the history is legal for the library and the limit, diligent for the team, changes no limit, and the answer is its state's
+  pub search : IsSearch lib ask.branchings workers analysts entries state answer
+  -- where the answer is optimal, the state's best is admissible, has the answer's cost, and nothing admissible costs less
+  pub optimal : (cost : ℕ) → answer ≡ Optimal cost → IsSomeAnd state.best (IsLeastBest lib cost)
+  -- where it is infeasible, nothing is admissible
+  pub infeasible : answer ≡ Infeasible → NoneAdmissible lib
+  -- the limit of branchings is the answer only where it was spent
+  pub at_limit : (incumbent : Option ℕ) → answer ≡ NodeLimit incumbent → IsLimitSpent lib ask.branchings entries state
+  -- whatever the answer, the state's best is admissible
+  pub best : IfSome state.best (IsAdmissibleBest lib)
+  -- the status is the answer's
   pub ended_so : status ≡ status_of (ending_of answer)
   -- the answer's report was printed, and nothing else
   pub printed : Appends before now (search_report lib state answer)
@@ -74,11 +78,9 @@ pub record ShowsSearch (ask : SolveWords) (status : Status) (lib_told log_told b
   -- each cut that was published holds in every admissible architecture
   pub cuts_hold : (first rest : List Entry) (worker node : ℕ) (cut : Cut) → entries ≡ first ++ Publish worker node cut ∷ rest
       → CutHolds lib ask.branchings first worker node cut
-  -- the limit of branchings is the answer only where it was spent
-  pub at_limit : (incumbent : Option ℕ) → answer ≡ NodeLimit incumbent → IsLimitSpent lib ask.branchings entries state
 
--- bytes are the front of the log of a search with these words, of the library that the shelf told, or where it told none, of some library
-pub record IsLogFront (ask : SolveWords) (lib_told : Option (List ℕ)) (front : List ℕ) : Type 0 where
+-- bytes are the front of the log of a search by a team with these words, of the library that the shelf told, or where it told none, of some library
+pub record IsLogFront (workers analysts : ℕ) (ask : SolveWords) (lib_told : Option (List ℕ)) (front : List ℕ) : Type 0 where
   pub bytes : List ℕ
   pub told : IfSome lib_told (λ all. bytes ≡ all)
   pub lib : LibraryParts
@@ -86,10 +88,10 @@ pub record IsLogFront (ask : SolveWords) (lib_told : Option (List ℕ)) (front :
   pub entries : List Entry
   pub state : SearchState
   pub answer : Answer
-  pub search : IsSearch lib ask.branchings ALONE entries state answer
+  pub search : IsSearch lib ask.branchings workers analysts entries state answer
   pub rest : List ℕ
   pub log : search_log lib ask.branchings entries state answer ≡ front ++ rest
 
 -- a run that stopped before its end left under the log's name what stood there, or where its bytes are told, such a front
-abbrev pub LeavesLog : SolveWords → Option (List ℕ) → Option (List ℕ) → Option (List ℕ) → Type 0
-LeavesLog ask lib_told log_before log_now = (log_now ≡ log_before) ⊎ IfSome log_now (IsLogFront ask lib_told)
+abbrev pub LeavesLog : ℕ → ℕ → SolveWords → Option (List ℕ) → Option (List ℕ) → Option (List ℕ) → Type 0
+LeavesLog workers analysts ask lib_told log_before log_now = (log_now ≡ log_before) ⊎ IfSome log_now (IsLogFront workers analysts ask lib_told)

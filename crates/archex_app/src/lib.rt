@@ -7,20 +7,20 @@
 //! status says of the files' bytes and of all architectures, which fault is the cause of each status
 //! that isn't an answer, and which status always comes where nothing outside failed.
 //!
-//! The search is branch and bound, a textbook method, by a plain recursion over cubes. A cube is
-//! closed by what the base rows and the cost row for the best so far force. It is dropped where one
-//! of them is refuted, or a combination of them; where nothing is free, the one architecture that is
-//! left is judged by what its sinks weigh; else the cube is split in two at a free variable. The
-//! recursion is at most as deep as there are components and edges.
+//! The search is that of `worker_team`: branch and bound, a textbook method, with one worker and up
+//! to a limit of branchings. It leaves a history, entry by entry, of how the space of choices was
+//! split, what was refuted and why, and which candidates were judged. The log of that history is
+//! written under its name, whole, before the report is printed, so that a reader who trusts nothing
+//! here can follow each entry and come to the same answer.
 //!
 //! A command is said once, by what it comes to (`ComesTo`), and is a function of its own that
 //! promises `Runs` of its own words; what holds of all runs follows from that.
 //!
 //! Stands on `lib_read` for the library, `binary_program` for the rows that say what its patterns
-//! say, `propagate` and `row_bounds` for what they leave of a cube, `analyst` for candidates,
-//! `sink_weight` for the report, `arch_csv` for architecture files, `fail_mass` for the failure
-//! mass, `outside` for the shelf and the sink, `arrayvec` and `itoa` for a line that takes no
-//! memory, and on nothing of the system.
+//! say, `worker_team` for the search, `search_core` for what a history and its answer say,
+//! `proof_log` for the log's text, `sink_weight` for the report, `arch_csv` for architecture files,
+//! `fail_mass` for the failure mass, `outside` for the shelf and the sink, `arrayvec` and `itoa` for
+//! a line that takes no memory, and on nothing of the system.
 #![tactic(auto)]
 
 mod architecture;

@@ -5,6 +5,7 @@ ghost use Rattle.outside.specs.Told.{Appends};
 ghost use Rattle.arch_model.specs.Parts.{LibraryParts};
 ghost use Rattle.arch_model.specs.Member.{member_count};
 ghost use Rattle.lib_read.specs.LibraryOf.{library_of};
+ghost use Rattle.lib_read.specs.declared.fault.LibFault.{LibFault};
 ghost use Rattle.archex_app.specs.Words.{texts, command_of, files_of, files_read, files_written};
 ghost use Rattle.archex_app.specs.Words.{SolveWords, AskToSolve, AskForMass, refused_words_text};
 ghost use Rattle.archex_app.specs.Status.{status_of, done, infeasible, node_limit, library_refused};
@@ -14,7 +15,7 @@ ghost use Rattle.archex_app.specs.Endings.{MayEnd};
 ghost use Rattle.archex_app.specs.Run.{Runs, RoseAmong, seen};
 ghost use Rattle.archex_app.specs.Complete.{Completes};
 ghost use Rattle.archex_app.specs.Answer.{ShowsCheapest, ShowsInfeasible, ShowsNodeLimit, ShowsRefusal};
-ghost use Rattle.archex_app.specs.Answer.{ShowsAnswer, Prints, PrintsFront};
+ghost use Rattle.archex_app.specs.Answer.{ShowsReport, Prints, PrintsFront};
 ghost use Rattle.archex_app.specs.Searched.{Answered, ShowsSearch, LeavesLog};
 ghost use Rattle.archex_app.specs.MassAnswer.{ShowsMass, RefusesArchitecture, RefusesSink, PrintsOver, CompletesMass};
 ghost use Rattle.archex_app.specs.Inner.Outcome.{Printed};
@@ -104,25 +105,39 @@ pub fn run_plain<F: Shelf, O: Sink>(
     ensures read_fault { (ask : SolveWords) → AskToSolve (texts words.now) ask → result ≡ status_of read_fault
         → Rose (F.read_faults shelf.old ask.lib) (F.read_faults shelf.new ask.lib) }
     ensures cut { (ask : SolveWords) → AskToSolve (texts words.now) ask → result ≡ status_of write_fault
-        → PrintsFront (ShowsAnswer ask.branchings) (F.told shelf.old ask.lib) (O.told out.old) (O.told out.new) }
+        → PrintsFront (ShowsReport ask.branchings) (F.told shelf.old ask.lib) (O.told out.old) (O.told out.new) }
 
     // Every answer of `solve` is that of one history of the search, whose log stands under LOG and
     // passes, and each of whose cuts holds in every admissible architecture. A run that stops before
     // its end leaves LOG as it was, or a front of such a log.
     ensures searched { (ask : SolveWords) → AskToSolve (texts words.now) ask → Answered result
-        → ShowsSearch ask result (F.told shelf.old ask.lib) (F.told shelf.new ask.log)
+        → ShowsSearch 1 1 ask result (F.told shelf.old ask.lib) (F.told shelf.new ask.log)
         (O.told out.old) (O.told out.new) }
     ensures stopped { (ask : SolveWords) → AskToSolve (texts words.now) ask
         → (result ≡ status_of write_fault) ⊎ (result ≡ status_of no_memory)
-        → LeavesLog ask (F.told shelf.old ask.lib) (F.told shelf.old ask.log) (F.told shelf.new ask.log) }
+        → LeavesLog 1 1 ask (F.told shelf.old ask.lib) (F.told shelf.old ask.log) (F.told shelf.new ask.log) }
+
+    // Where the log couldn't be written, nothing is printed. A run that refuses the library, or can't
+    // read it, leaves LOG as it was.
+    ensures unlogged { (ask : SolveWords) → AskToSolve (texts words.now) ask → result ≡ status_of write_fault
+        → ¬ Rose (O.faults out.old) (O.faults out.new) → O.told out.new ≡ O.told out.old }
+    ensures log_stays { (ask : SolveWords) → AskToSolve (texts words.now) ask
+        → (result ≡ status_of library_refused) ⊎ (result ≡ status_of read_fault)
+        → F.told shelf.new ask.log ≡ F.told shelf.old ask.log }
 
     // A library that the shelf tells is searched or refused, where no call of the outside failed and
-    // there was memory. A limit of 2 to the number of its members is never met.
+    // there was memory; bytes that are no library are refused whether LOG can be written or not. A
+    // limit of 2 to the number of its members is never met.
     ensures complete { (ask : SolveWords) (bytes : List ℕ) → AskToSolve (texts words.now) ask
         → F.told shelf.old ask.lib ≡ Some bytes
         → ¬ Rose (F.read_faults shelf.old ask.lib) (F.read_faults shelf.new ask.lib)
         → ¬ Rose (F.write_faults shelf.old ask.log) (F.write_faults shelf.new ask.log)
         → ¬ Rose (O.faults out.old) (O.faults out.new) → Completes ask.branchings bytes result }
+    ensures always_refused { (ask : SolveWords) (bytes : List ℕ) (fault : LibFault) → AskToSolve (texts words.now) ask
+        → F.told shelf.old ask.lib ≡ Some bytes → library_of bytes ≡ Err fault
+        → ¬ Rose (F.read_faults shelf.old ask.lib) (F.read_faults shelf.new ask.lib)
+        → ¬ Rose (O.faults out.old) (O.faults out.new)
+        → (result ≡ status_of library_refused) ⊎ (result ≡ status_of no_memory) }
     ensures enough { (ask : SolveWords) (bytes : List ℕ) (lib : LibraryParts) → AskToSolve (texts words.now) ask
         → F.told shelf.old ask.lib ≡ Some bytes → library_of bytes ≡ Ok lib
         → 2 ^ member_count lib ≤ ask.branchings → ¬ (result ≡ status_of node_limit) }

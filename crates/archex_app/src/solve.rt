@@ -63,7 +63,7 @@ fn reported(alloc: Global, lib: &Library, solved: &Solved) -> Result<Outcome, Me
 // Searches a library up to a limit of branchings, with one worker.
 fn search(alloc: Global, lib: Library, limit: u32) -> Result<Searched, Memory>
     requires { limit ≤ limits.BRANCHINGS }
-    ensures { IfOk result (IsSearched lib limit ALONE) }
+    ensures { IfOk result (IsSearched lib limit ALONE ALONE) }
 {
     let problem = problem_of(alloc, lib)?;
     // read for what each problem keeps of its library and its rows
@@ -85,7 +85,7 @@ fn search_under<F: Shelf>(
     limit: u32,
 ) -> Result<Searched, Stop>
     requires { limit ≤ limits.BRANCHINGS }
-    ensures searched { IfOk result (IsSearchedUnder (F.told shelf.old name.now) limit ALONE) }
+    ensures searched { IfOk result (IsSearchedUnder (F.told shelf.old name.now) limit ALONE ALONE) }
     ensures reads_stay { OnOk result (Stay (F.read_faults shelf.old) (F.read_faults shelf.new)) }
     ensures stop { IfErr result (λ stop. StopsAt library_of library_refused refused_library_text
         (F.told shelf.old name.now) name.now stop (F.read_faults shelf.old) (F.read_faults shelf.new)) }

@@ -66,7 +66,23 @@ pub(crate) fn run_on(
     Ok((status, printed))
 }
 
-/// A report up to its last two lines, the numbers of branchings and of cuts.
+/// What such a run left under `x.log`, after how it ended and what it printed.
+pub(crate) fn logged_on(
+    alloc: Global,
+    words: &[&str],
+    library: &[u8],
+    failing_calls: &[u64],
+) -> Result<(Status, Vec<u8>, Vec<u8>), AllocError> {
+    let words = words_of(alloc, words)?;
+    let mut shelf = shelf_with(alloc, library, b"", failing_calls)?;
+    let mut sink = MemSink::new(alloc, 4096, &[])?;
+    let status = run_plain(alloc, words.as_slice(), &mut shelf, &mut sink);
+    let printed = sink.bytes().to_vec(alloc)?;
+    let log = log_on(&shelf).to_vec(alloc)?;
+    Ok((status, printed, log))
+}
+
+/// A report before its numbers of branchings and of cuts, which are its last two lines.
 pub(crate) fn without_counts(report: &[u8]) -> &[u8] {
     for end in 0..report.len() {
         if report[end..].starts_with(b"branchings ") {

@@ -1,6 +1,6 @@
-// Searches that their limit of branchings ends, and how many branchings searches take.
+// Searches that end at their limit of branchings, how many branchings searches take, and their logs.
 use crate::Status;
-use crate::tests::{run_on, without_counts};
+use crate::tests::{logged_on, run_on, without_counts};
 use std::alloc::{AllocError, Global};
 use std::test::Fail;
 
@@ -154,5 +154,77 @@ fn a_limit_ends_the_search(rt: HostRuntime) -> Result<(), Fail> {
     assert_eq!(rt; ended, Status(2));
     let none = b"status nodelimit\nincumbent none\nbranchings 0\ncuts 0\n";
     assert_eq!(rt; printed.as_slice(), none.as_slice());
+    Ok(())
+}
+
+// Thirty-one sources of supply 2 and cost 2, of which a demand of 31 asks for sixteen and a cap of 31
+// lets fifteen pass. Half a source more would do, so nothing is refuted before fifteen sources are
+// fixed alike, whatever is branched on.
+const HALF_A_SOURCE_SHORT: &[u8] = b"type = [
+  {name = \"s\", role = \"source\", max = 31, cost = 2, supply = 2},
+  {name = \"t\", role = \"sink\", demand = 31},
+]
+pattern = [
+  {kind = \"count\", type = \"t\", min = 1},
+  {kind = \"total_supply\"},
+  {kind = \"cost_cap\", max = 31},
+]
+";
+
+// A log is written to its file in pieces of this many bytes, and a line more at most.
+const PIECE: usize = 65536;
+
+const LONG_LINE: usize = 1000;
+
+// A log of several pieces is whole; with the second of them failing, the first stands there alone,
+// and nothing is printed.
+#[test]
+fn long_logs_are_written_in_pieces(rt: HostRuntime) -> Result<(), Fail> {
+    let alloc = rt.alloc();
+    let words = &["solve", "x.toml", "x.log", "2000", "1", "0"];
+    let (ended, printed, log) = logged_on(alloc, words, HALF_A_SOURCE_SHORT, &[])?;
+    assert_eq!(rt; ended, Status(2));
+    let report = b"status nodelimit\nincumbent none\nbranchings 2000\ncuts 0\n";
+    assert_eq!(rt; printed.as_slice(), report.as_slice());
+    assert!(rt; log.len() > 2 * PIECE);
+    assert!(rt;
+        log.as_slice()
+            .starts_with(b"archex-log 1\nvars 32 0\nlimit 2000\n")
+    );
+    assert!(rt;
+        log.as_slice()
+            .ends_with(b"\nanswer nodelimit none 2000 0\n")
+    );
+    // the calls are two reads, a fresh start, and a call for each piece
+    let (ended, printed, cut) = logged_on(alloc, words, HALF_A_SOURCE_SHORT, &[4])?;
+    assert_eq!(rt; ended, Status(6));
+    assert_eq!(rt; printed.len(), 0);
+    assert!(rt; cut.len() >= PIECE && cut.len() < PIECE + LONG_LINE);
+    assert!(rt; log.as_slice().starts_with(cut.as_slice()));
+    Ok(())
+}
+
+// The log of a file without a component, whose one candidate costs nothing, and of the two chains
+// with no branching to make, whose root is parked at once.
+#[test]
+fn short_logs_are_as_they_must_be(rt: HostRuntime) -> Result<(), Fail> {
+    let rows: [(&[u8], Status, &[u8]); 2] = [
+        (
+            b"",
+            Status(0),
+            b"archex-log 1\nvars 0 0\nlimit 0\ntake 0 0 0 none\noffer 0 0 -\nstudy 0 0\naccept 0 0 0\nanswer optimal 0 0 0\n",
+        ),
+        (
+            TWO_CHAINS,
+            Status(2),
+            b"archex-log 1\nvars 5 6\nlimit 0\ntake 0 0 0 none\npark 0 0\nanswer nodelimit none 0 0\n",
+        ),
+    ];
+    let words = &["solve", "x.toml", "x.log", "0", "1", "0"];
+    for (library, status, log_text) in rows {
+        let (ended, _printed, log) = logged_on(rt.alloc(), words, library, &[])?;
+        assert_eq!(rt; ended, status);
+        assert_eq!(rt; log.as_slice(), log_text);
+    }
     Ok(())
 }

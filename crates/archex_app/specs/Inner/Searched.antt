@@ -11,17 +11,17 @@ use Rattle.archex_app.specs.Report.{search_report, ending_of}
 use Rattle.archex_app.specs.Inner.Outcome.{IsRead}
 
 -- it is a search of this library, with its report
-pub record IsSearched (lib : LibraryParts) (limit analysts : ℕ) (searched : Searched) : Type 0 where
+pub record IsSearched (lib : LibraryParts) (limit workers analysts : ℕ) (searched : Searched) : Type 0 where
   pub state : SearchState
   pub problem : searched.problem ≡ base_problem lib
-  pub search : IsSearch lib limit analysts searched.solved.history.entries state searched.solved.answer
+  pub search : IsSearch lib limit workers analysts searched.solved.history.entries state searched.solved.answer
   pub branchings : searched.solved.branchings ≡ state.branchings
   pub cuts : searched.solved.cuts ≡ length state.cuts
   pub ended_so : searched.report.status ≡ status_of (ending_of searched.solved.answer)
   pub text : cow_slice_items searched.report.text ≡ search_report lib state searched.solved.answer
 
 -- it is one of the library of the bytes that are told, or where none are, of some library
-pub record IsSearchedUnder (told : Option (List ℕ)) (limit analysts : ℕ) (searched : Searched) : Type 0 where
+pub record IsSearchedUnder (told : Option (List ℕ)) (limit workers analysts : ℕ) (searched : Searched) : Type 0 where
   pub lib : LibraryParts
   pub read : IsRead library_of told (Ok lib)
-  pub is : IsSearched lib limit analysts searched
+  pub is : IsSearched lib limit workers analysts searched

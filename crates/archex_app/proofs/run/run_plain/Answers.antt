@@ -1,5 +1,5 @@
 use Rattle.archex_app.proofs.AllRuns.{run_of_words, refused_first, refused, may_end, read_among, write_rose, prints_nothing, reads_stay, writes_stay, prints_stay}
-use Rattle.archex_app.proofs.Headline.{optimal, none_meets, limit_met, refused_library, read_rose, cut, searched, leaves_log, completes, enough}
+use Rattle.archex_app.proofs.Headline.{optimal, none_meets, limit_met, refused_library, read_rose, cut, searched, leaves_log, unlogged, log_stays, completes, always_refused, enough}
 use Rattle.archex_app.proofs.MassHeadline as mass
 use Rattle.archex_app.proofs.run.run_plain.Goals as goal
 
@@ -27,8 +27,17 @@ returns-clause-searched g c ask asked is = searched ask _ _ _ (run_of_words _ _ 
 pub returns-clause-stopped : goal.returns-clause-stopped
 returns-clause-stopped g c ask asked is = leaves_log ask _ _ _ (run_of_words _ _ _ _ _ asked c.run_command.ensures.run) is
 
+pub returns-clause-unlogged : goal.returns-clause-unlogged
+returns-clause-unlogged g c ask asked is calm = unlogged ask _ _ _ (run_of_words _ _ _ _ _ asked c.run_command.ensures.run) is calm
+
+pub returns-clause-log_stays : goal.returns-clause-log_stays
+returns-clause-log_stays g c ask asked is = log_stays ask _ _ _ (run_of_words _ _ _ _ _ asked c.run_command.ensures.run) is
+
 pub returns-clause-complete : goal.returns-clause-complete
 returns-clause-complete g c ask bytes asked tells reads writes prints = completes ask bytes _ _ _ (run_of_words _ _ _ _ _ asked c.run_command.ensures.run) tells reads writes prints
+
+pub returns-clause-always_refused : goal.returns-clause-always_refused
+returns-clause-always_refused g c ask bytes fault asked tells bad reads prints = always_refused ask bytes fault _ _ _ (run_of_words _ _ _ _ _ asked c.run_command.ensures.run) tells bad reads prints
 
 pub returns-clause-enough : goal.returns-clause-enough
 returns-clause-enough g c ask bytes lib asked tells read far is = enough ask bytes lib _ _ _ (run_of_words _ _ _ _ _ asked c.run_command.ensures.run) tells read far is
