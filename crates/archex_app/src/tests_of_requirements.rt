@@ -185,6 +185,26 @@ fn bounds_on_weights_are_kept(rt: HostRuntime) -> Result<(), Fail> {
     Ok(())
 }
 
+// A bound that all is within lets a load stand alone that nothing feeds, and asks for no cut.
+#[test]
+fn the_greatest_bound_needs_no_cut(rt: HostRuntime) -> Result<(), Fail> {
+    let library = two_buses(
+        rt.alloc(),
+        "{sink = \"load.1\", bound = 1000000000000000000}",
+    )?;
+    let (ended, printed) = run_on(rt.alloc(), SOLVE, library.as_bytes(), &[])?;
+    let report = printed.as_slice();
+    assert_eq!(rt; ended, Status(0));
+    assert!(rt;
+        report.starts_with(
+            b"status optimal\ncost 0\nkind,from,to\ncomponent,load.1,
+weight load.1 1000000000000000000 of 1000000000000000000\n"
+        )
+    );
+    assert!(rt; report.ends_with(b"\ncuts 0\n"));
+    Ok(())
+}
+
 // A weight may grow with edges; products are rounded up, so three sources weigh as much as four; and
 // the aircraft, whose flight controls need left, right and emergency side.
 #[test]
