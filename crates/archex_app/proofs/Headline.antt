@@ -172,13 +172,13 @@ searched_from ask status before now due bytes told w = record {
   search = w.search;
   optimal = λ cost is. least_best w.lib ask.branchings ALONE ALONE w.entries w.state cost (subst (λ (a : Answer). IsSearch w.lib ask.branchings ALONE ALONE w.entries w.state a) is w.search);
   infeasible = λ is. none_admissible w.lib ask.branchings ALONE ALONE w.entries w.state (subst (λ (a : Answer). IsSearch w.lib ask.branchings ALONE ALONE w.entries w.state a) is w.search);
+  at_limit = λ incumbent is. limit_spent w.lib ask.branchings ALONE ALONE w.entries w.state incumbent (subst (λ (a : Answer). IsSearch w.lib ask.branchings ALONE ALONE w.entries w.state a) is w.search);
   best = best_admissible w.lib ask.branchings ALONE ALONE w.entries w.state w.answer w.search;
   ended_so = due.ended_so ∙ ap status_of w.ending_is;
   printed = subst (λ (t : List ℕ). Appends before.printed now.printed t) w.text_is due.printed;
   log = only_file ask.log (search_log w.lib ask.branchings w.entries w.state w.answer) due.files before now w.files_are due.holds;
   passes = search_passes bytes w.lib ask.branchings ALONE ALONE w.entries w.state w.answer w.read w.search;
   cuts_hold = cuts_hold w.lib ask.branchings ALONE ALONE w.entries w.state w.answer w.search;
-  at_limit = λ incumbent is. limit_spent w.lib ask.branchings ALONE ALONE w.entries w.state incumbent (subst (λ (a : Answer). IsSearch w.lib ask.branchings ALONE ALONE w.entries w.state a) is w.search);
 }
 
 searched_as : (n : ℕ) (ask : SolveWords) (status : Status) (before now : Seen) → Solving ask status before now → status ≡ record { 0 = n } → n ≢ 3 → n ≢ 5 → n ≢ 6 → n ≢ 7 → ShowsSearch ALONE ALONE ask status (before.told ask.lib) (now.told ask.log) before.printed now.printed
