@@ -6,7 +6,7 @@ use Rattle.archex_app.specs.Status.{Ending, read_fault, write_fault, no_memory}
 pub data Due : Type 0 where
   -- to end so, with these bytes under each name of a file that is written, in the order of writing, and with this text on the sink
   ends : Ending → List (List ℕ × List ℕ) → List ℕ → Due
-  -- to read this file, which may fail
+  -- to end since this file couldn't be read
   unread : List ℕ → Due
 
 -- an ending that is due: no fault of the outside, and no want of memory

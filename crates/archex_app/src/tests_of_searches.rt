@@ -80,7 +80,8 @@ require = [
 ";
 
 // Twelve pairs are bought with twelve branchings: every node that is still open after the first
-// candidate is pruned. The others are those that docs/MAP.md tells of.
+// candidate is pruned. For the other two nothing is promised: their numbers, which docs/MAP.md tells
+// of, are those of today's choice of the variable to branch on.
 #[test]
 fn bounds_save_branchings(rt: HostRuntime) -> Result<(), Fail> {
     let limited = &["solve", "x.toml", "x.log", "200", "1", "0"];
