@@ -62,7 +62,7 @@ pub record ShowsSearch (workers analysts : ℕ) (ask : SolveWords) (status : Sta
   -- where the answer is optimal, the state's best is admissible, has the answer's cost, and nothing admissible costs less
   pub optimal : (cost : ℕ) → answer ≡ Optimal cost → IsSomeAnd state.best (IsLeastBest lib cost)
   -- where it is infeasible, nothing is admissible
-  pub infeasible : answer ≡ Infeasible → NoneAdmissible lib
+  pub none_meets : answer ≡ Infeasible → NoneAdmissible lib
   -- the limit of branchings is the answer only where it was spent
   pub at_limit : (incumbent : Option ℕ) → answer ≡ NodeLimit incumbent → IsLimitSpent lib ask.branchings entries state
   -- whatever the answer, the state's best is admissible
