@@ -1,5 +1,6 @@
 // The rows of learned cuts, and lists of them.
-ghost use Rattle.std.specs.Prelude.{◌≡◌, ℕ, ◌<◌, ◌≤◌, ◌-◌, pos, ◌∷◌, [], ◌++◌, length, slice_get, IfOk, OnOk, OnErr, Some};
+ghost use Rattle.std.specs.Prelude.{◌≡◌, ℕ, ◌<◌, ◌≤◌, ◌-◌, pos, ◌∷◌, [], ◌++◌, length};
+ghost use Rattle.std.specs.Prelude.{slice_get, IfOk, OnOk, OnErr, Some};
 ghost use Rattle.std.specs.Prelude.{false, IsTrue};
 ghost use Rattle.rows.specs.Parts.{CutParts, CutListParts};
 ghost use Rattle.rows.specs.Row.{IsSized, cut_coef};
