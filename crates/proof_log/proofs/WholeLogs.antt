@@ -5,6 +5,7 @@ use Rattle.std.specs.List.{flat_map, AllByRecursion}
 use Rattle.std.specs.Char.{digit_value}
 use Rattle.std.specs.Fmt.{decimal}
 use Rattle.std.specs.Str.Parse.{AllDigits}
+use Rattle.std.proofs.lemmas.Bool.{eqb-true}
 use Rattle.std.proofs.lemmas.List.{append-nil, length-append}
 use Rattle.rows.specs.Parts.{ProblemParts}
 use Rattle.search_core.specs.declared.entry.Entry.{Entry}
@@ -22,7 +23,7 @@ use Rattle.proof_log.proofs.Spelling.{same_value}
 
 -- ---- no line feed stands in a line
 
-no_feed : List ℕ → Bool
+pub no_feed : List ℕ → Bool
 no_feed [] = true
 no_feed (b ∷ bs) = not (eqb b 10) && no_feed bs
 
@@ -34,6 +35,19 @@ and_yes false b e f = absurd cc
 and_parts : (a b : Bool) → (a && b) ≡ true → (a ≡ true) × (b ≡ true)
 and_parts true b e = (refl, e)
 and_parts false b e = absurd cc
+
+by_test : (c : ℕ) → (c ≡ 10 → ⊥) → (b : Bool) → eqb c 10 ≡ b → not (eqb c 10) ≡ true
+by_test c h true e = absurd (h (eqb-true c 10 e))
+by_test c h false e = ap not e
+
+-- bytes none of which is a line feed
+pub free_of_feeds : (bytes : List ℕ) → AllByRecursion (λ b. b ≡ 10 → ⊥) bytes → no_feed bytes ≡ true
+unfolding no_feed
+free_of_feeds [] none = refl
+free_of_feeds (b ∷ bs) none = and_yes (not (eqb b 10)) (no_feed bs) (other b none.0) (free_of_feeds bs none.1)
+  where
+    other : (c : ℕ) → (c ≡ 10 → ⊥) → not (eqb c 10) ≡ true
+    other c h = by_test c h (eqb c 10) refl
 
 feed-append : (a b : List ℕ) → no_feed a ≡ true → no_feed b ≡ true → no_feed (a ++ b) ≡ true
 unfolding no_feed
@@ -119,12 +133,12 @@ narrow (optimal a b c) = (refl, (refl, (omega arith, (omega arith, (omega arith,
 narrow (infeasible a b) = (refl, (refl, (refl, (omega arith, (omega arith, tt)))))
 narrow (node_limit a b c) = (refl, (refl, (tt, (omega arith, (omega arith, tt)))))
 
-line_feed : (line : Line ℕ) → IsInRange line → no_feed (text_of line) ≡ true
+pub line_feed : (line : Line ℕ) → IsInRange line → no_feed (text_of line) ≡ true
 line_feed line r = fields_feed (line_fields line) (narrow line) r
 
 -- ---- lines one after another
 
-cut_at_feed : (a b x y : List ℕ) → no_feed a ≡ true → no_feed b ≡ true → a ++ (10 ∷ x) ≡ b ++ (10 ∷ y) → (a ≡ b) × (x ≡ y)
+pub cut_at_feed : (a b x y : List ℕ) → no_feed a ≡ true → no_feed b ≡ true → a ++ (10 ∷ x) ≡ b ++ (10 ∷ y) → (a ≡ b) × (x ≡ y)
 unfolding no_feed
 cut_at_feed [] [] x y e f same = (refl, cc)
 cut_at_feed [] (c ∷ cs) x y e f same = absurd (let h : 10 ≡ c = cc in let t = (and_parts (not (eqb c 10)) (no_feed cs) f).0 in let s : not (eqb 10 10) ≡ true = subst (λ k. not (eqb k 10) ≡ true) (sym h) t in cc)
@@ -135,7 +149,7 @@ cut_at_feed (c ∷ cs) (d ∷ ds) x y e f same =
     let t = cut_at_feed cs ds x y (and_parts (not (eqb c 10)) (no_feed cs) e).1 (and_parts (not (eqb d 10)) (no_feed ds) f).1 tail in
     ((λ i. head i ∷ t.0 i), t.1)
 
-nothing_is_ended : (t rest : List ℕ) → [] ≡ ended t ++ rest → ⊥
+pub nothing_is_ended : (t rest : List ℕ) → [] ≡ ended t ++ rest → ⊥
 nothing_is_ended t rest e = absurd (omega (arith, ap (λ (l : List ℕ). length l) e, length-append (ended t) rest, length-append t (codes "\n")))
 
 pub same_lines : (xs ys : List LogLine) → AllByRecursion IsLoggable xs → AllByRecursion IsLoggable ys → lines_text xs ≡ lines_text ys → xs ≡ ys
