@@ -12,6 +12,7 @@ use Rattle.arch_model.specs.Member.{is_in, is_present, fail_of, member_count, me
 use Rattle.arch_model.specs.Path.{parts}
 use Rattle.arch_model.specs.Weight.{product_of}
 use Rattle.arch_model.specs.CutSet.{nonempty_sublists, is_minimal_cut_set}
+use Rattle.arch_model.proofs.ProductLaws.{product_zero}
 use Rattle.arch_model.proofs.Members.{and_right, or_left, or_right, bool_cases}
 use Rattle.arch_model.proofs.NextMember.{members_all}
 use Rattle.arch_model.proofs.SetLaws.{has-empty}
@@ -20,7 +21,6 @@ use Rattle.arch_model.proofs.Pruning.{none_beyond}
 use Rattle.cut_sets.specs.CutSets.{cut_sets_of}
 use Rattle.cut_sets.specs.Inner.Upcoming.{NetworkParts, PlaceParts, IsNetwork, IsPlace, is_live_cut_set, is_candidate, sets_beyond, upcoming}
 use Rattle.cut_sets.proofs.Filters.{passing, filter_yes, filter_no, passing_among, none_begins, live_sublists}
-use Rattle.cut_sets.proofs.Products.{product_zero}
 use Rattle.cut_sets.proofs.Places.{none_at_end, range_high}
 use Rattle.cut_sets.proofs.Beyond.{beyond_none, and_no}
 

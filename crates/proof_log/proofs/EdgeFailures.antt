@@ -1,8 +1,8 @@
 -- Where no edge fails, a right cut's set has components alone.
 use Rattle.std.proofs.Common.{◌≡◌, ℕ, ◌-◌, ◌*◌, ◌^◌, ◌≤◌, ◌<◌, true, false, not, nat_eq, List, [], ◌∷◌, ◌++◌, map, filter, length, refl, sym, ap, subst, ◌∙◌, arith, inl, inr}
 use Rattle.std.specs.Prelude.{IsTrue}
-use Rattle.std.specs.List.{All, AllByRecursion, flat_map, fold}
-use Rattle.std.proofs.lemmas.Bool.{eqb-true, cases_lt}
+use Rattle.std.specs.List.{All, AllByRecursion, flat_map}
+use Rattle.std.proofs.lemmas.Bool.{cases_lt}
 use Rattle.std.proofs.lemmas.List.Elements.{All-from_recursion, recursion_from_All}
 use Rattle.arch_model.specs.declared.template.Component.{Component}
 use Rattle.arch_model.specs.declared.template.Edge.{Edge}
@@ -13,9 +13,10 @@ use Rattle.arch_model.specs.Parts.{LibraryParts}
 use Rattle.arch_model.specs.Library.{IsLibrary}
 use Rattle.arch_model.specs.Template.{template_of, components_of, instances_of, edge_of, edges_to, edges_of_link, edges_of}
 use Rattle.arch_model.specs.Member.{is_in, fail_of, member_count}
-use Rattle.arch_model.specs.Weight.{product_of, ceil_div}
+use Rattle.arch_model.specs.Weight.{product_of}
 use Rattle.arch_model.proofs.Ranges.{blank_edge, fail_of_edge}
-use Rattle.arch_model.proofs.Members.{or_cases, is_in-members}
+use Rattle.arch_model.proofs.Members.{is_in-members}
+use Rattle.arch_model.proofs.ProductLaws.{product_zero}
 use Rattle.redundancy_cut.specs.RightCut.{IsRightRedundancy}
 use Rattle.proof_log.specs.Line.{SET_NUMBERS}
 use Rattle.proof_log.specs.Log.{NoEdgeFails}
@@ -57,31 +58,12 @@ module _ (lib : LibraryParts) (right : IsLibrary lib) (never : NoEdgeFails lib) 
   edge_never : (v : ℕ) → length lib.components ≤ v → v < member_count lib → fail_of lib v ≡ 0
   edge_never v far short = sym (fail_of_edge lib v far short) ∙ never (v - length lib.components) blank_edge (omega arith)
 
-  -- ---- a product with a member that never fails
-
-  abbrev step : ℕ → ℕ → ℕ
-  step v c = ceil_div (v * fail_of lib c) (10 ^ 6)
-
-  stays_zero : (members : List ℕ) → fold step 0 members ≡ 0
-  stays_zero [] = refl
-  stays_zero (c ∷ cs) = let e : step 0 c ≡ 0 = omega arith in ap (λ v. fold step v cs) e ∙ stays_zero cs
-
-  zero_at : (members : List ℕ) (v c : ℕ) → is_in members c ≡ true → fail_of lib c ≡ 0 → fold step v members ≡ 0
-  zero_at [] v c h none = absurd (let e : false ≡ true = h in cc)
-  zero_at (d ∷ ds) v c h none = elim (or_cases (nat_eq d c) (is_in ds c) h) [
-    | inl here ↦
-        let nothing : fail_of lib d ≡ 0 = ap (fail_of lib) (eqb-true d c here) ∙ none in
-        let e : step v d ≡ 0 = rw nothing (omega arith) in
-        ap (λ w. fold step w ds) e ∙ stays_zero ds
-    | inr later ↦ zero_at ds (step v d) c later none
-  ]
-
   -- the set of a right cut
   pub set_below : (r : Requirement) (set far : Set) → IsRightRedundancy lib r set far → (v : ℕ) → IsTrue (has set v) → v < SET_NUMBERS
   set_below r set far is v on = elim (cases_lt v (length lib.components)) [
     | inl low ↦ omega (arith, low, right.few_components)
     | inr high ↦
         let short : v < member_count lib = is.members v on in
-        let nothing : product_of lib (members_below set (member_count lib)) ≡ 0 = zero_at (members_below set (member_count lib)) (10 ^ 18) v (is_in-members set (member_count lib) v on short) (edge_never v high short) in
+        let nothing : product_of lib (members_below set (member_count lib)) ≡ 0 = product_zero lib (members_below set (member_count lib)) v (is_in-members set (member_count lib) v on short) (edge_never v high short) in
         absurd (omega (arith, is.heavy, nothing))
   ]
