@@ -18,12 +18,12 @@ use Rattle.search_core.specs.declared.entry.Entry.{Entry}
 use Rattle.search_core.specs.declared.answer.Answer.TheVariants.{Optimal, NodeLimit}
 use Rattle.search_core.specs.Node.{is_parked}
 use Rattle.search_core.specs.State.{start_of}
+use Rattle.search_core.specs.Step.{NamesWorkerBelow}
 use Rattle.search_core.specs.History.{is_reopen, IsAtRest}
 use Rattle.search_core.specs.Answers.{answer_of}
 use Rattle.search_core.proofs.Determined.{steps_are_determined}
 use Rattle.search_core.proofs.Places.{entries-map}
 use Rattle.search_core.proofs.WorkedRows.{Listed, at, at_end, problem_p, not_first, second, best_p, cost_alone, history_p, reaches_p, answer_p, diligent_from_start}
-use Rattle.node_pool.specs.Pool.{NamesWorkerBelow}
 use Rattle.branch_worker.specs.declared.outcome.Outcome.TheVariants.{Branch, Prune, Offer}
 use Rattle.branch_worker.specs.Outcome.{IsOutcome, LeadsToQuiet}
 use Rattle.worker_team.specs.declared.solved.Solved.{Solved}
