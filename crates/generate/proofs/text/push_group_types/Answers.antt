@@ -1,0 +1,7 @@
+use Rattle.std.proofs.Common.{append_assoc, ◌∙◌}
+use Rattle.generate.specs.Generated.{types_text}
+use Rattle.generate.proofs.text.push_group_types.Goals as goal
+
+pub returns : goal.returns
+unfolding types_text
+returns c = c.in_ok-write.ensures.bytes ∙ simp append_assoc
