@@ -1,6 +1,6 @@
 -- Worked rows: the words, costs, bounds and text of the number 0.
-use Rattle.std.proofs.Common.{◌≡◌, ℕ, List, [], ◌∷◌, codes, map, refl}
-use Rattle.std.specs.Fmt.{decimal, digits}
+use Rattle.std.proofs.Common.{◌≡◌, [], ◌∷◌, codes, map, refl}
+use Rattle.std.specs.Fmt.{digits}
 use Rattle.rand_core.specs.Steps.{first_words}
 use Rattle.generate.specs.Generated.{words_of, groups_of, types_text, link_text, requirement_text, library_text}
 

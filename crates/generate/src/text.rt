@@ -17,7 +17,8 @@ fn push_group_types(text: &mut String, group: &Group) -> Result<(), Memory>
     let (number, cost) = (group.number, group.cost);
     write!(
         text,
-        "[[type]]\nname = \"s{number}\"\nrole = \"source\"\nmax = 2\ncost = {cost}\nfail = 1000\n[[type]]\nname = \"l{number}\"\nrole = \"sink\"\n",
+        "[[type]]\nname = \"s{number}\"\nrole = \"source\"\nmax = 2\ncost = {cost}\nfail = 1000\n\
+        [[type]]\nname = \"l{number}\"\nrole = \"sink\"\n"
     )?;
     Ok(())
 }
