@@ -1,0 +1,4 @@
+pub mod LineLaws
+pub mod YesLaws
+pub mod PassingTexts
+pub mod WorkedLines

@@ -39,23 +39,23 @@ IsInPlace problem (Closed state answer) said = IsNoHeader said
 
 -- what a line breaks first behind the header lines: an entry what it breaks at the state, a closing line Answer where it doesn't state that state's
 abbrev pub StateBreaks : ProblemParts → SearchState → LogLine → Rule → Type 0
-StateBreaks problem state lines.Version broken = ⊥
-StateBreaks problem state (lines.Vars components edges) broken = ⊥
-StateBreaks problem state (lines.Limit limit) broken = ⊥
-StateBreaks problem state (lines.Entry entry) broken = FirstBroken problem state entry broken
-StateBreaks problem state (lines.Closing answer branchings cuts) broken = Breaks rule.Answer (IsAnswer state answer branchings cuts) broken ⊥
+StateBreaks problem state lines.Version first = ⊥
+StateBreaks problem state (lines.Vars components edges) first = ⊥
+StateBreaks problem state (lines.Limit limit) first = ⊥
+StateBreaks problem state (lines.Entry entry) first = FirstBroken problem state entry first
+StateBreaks problem state (lines.Closing answer branchings cuts) first = Breaks rule.Answer (IsAnswer state answer branchings cuts) first ⊥
 
 -- what a line in its place breaks first: a header line nothing
 abbrev pub PlacedBreaks : ProblemParts → Phase → LogLine → Rule → Type 0
-PlacedBreaks problem Begun said broken = ⊥
-PlacedBreaks problem Versioned said broken = ⊥
-PlacedBreaks problem Sized said broken = ⊥
-PlacedBreaks problem (Running state) said broken = StateBreaks problem state said broken
-PlacedBreaks problem (Closed state answer) said broken = ⊥
+PlacedBreaks problem Begun said first = ⊥
+PlacedBreaks problem Versioned said first = ⊥
+PlacedBreaks problem Sized said first = ⊥
+PlacedBreaks problem (Running state) said first = StateBreaks problem state said first
+PlacedBreaks problem (Closed state answer) said first = ⊥
 
 -- the first rule that is broken by what a line says: After where a closing line came before, Header where it isn't in its place, and then those of its kind
 abbrev pub SaidBreaks : ProblemParts → Phase → LogLine → Rule → Type 0
-SaidBreaks problem phase said broken = Breaks rule.After (IsUnclosed phase) broken (Breaks rule.Header (IsInPlace problem phase said) broken (PlacedBreaks problem phase said broken))
+SaidBreaks problem phase said first = Breaks rule.After (IsUnclosed phase) first (Breaks rule.Header (IsInPlace problem phase said) first (PlacedBreaks problem phase said first))
 
 -- a rule of a line on its own is broken first
 pub record FailsAlone (bytes : List ℕ) (broken : Rule) : Type 0 where
@@ -71,4 +71,4 @@ pub record FailsThere (problem : ProblemParts) (phase : Phase) (bytes : List ℕ
 
 -- the first rule that a line breaks at a phase: TooLong, Form, Number and Order of the line on its own, and then After, Header, and those of its kind
 abbrev pub LineBreaks : ProblemParts → Phase → List ℕ → Rule → Type 0
-LineBreaks problem phase bytes broken = FailsAlone bytes broken ⊎ FailsThere problem phase bytes broken
+LineBreaks problem phase bytes first = FailsAlone bytes first ⊎ FailsThere problem phase bytes first

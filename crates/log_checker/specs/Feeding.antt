@@ -24,10 +24,10 @@ pub record Versions (old new : Phase) : Type 0 where
   pub after : new ≡ Versioned
 
 -- the second line states how many components and edges the problem's template has
-pub record Sizes (problem : ProblemParts) (old : Phase) (components edges : ℕ) (new : Phase) : Type 0 where
+pub record Sizes (problem : ProblemParts) (old : Phase) (m n : ℕ) (new : Phase) : Type 0 where
   pub before : old ≡ Versioned
-  pub components : components ≡ length problem.library.components
-  pub edges : edges ≡ length problem.library.edges
+  pub components : m ≡ length problem.library.components
+  pub edges : n ≡ length problem.library.edges
   pub after : new ≡ Sized
 
 -- the third line states the limit on branchings, at most 100000, under which the search starts
@@ -45,17 +45,17 @@ pub record Enters (problem : ProblemParts) (old : Phase) (entry : Entry) (new : 
   pub after : new ≡ Running next
 
 -- the answer of a state and the numbers of its branchings and cuts are those of a closing line
-pub record IsAnswer (state : SearchState) (answer : Answer) (branchings cuts : ℕ) : Type 0 where
-  pub answers : answer_of state ≡ Some answer
-  pub branchings : branchings ≡ state.branchings
-  pub cuts : cuts ≡ length state.cuts
+pub record IsAnswer (state : SearchState) (stated : Answer) (b k : ℕ) : Type 0 where
+  pub answers : answer_of state ≡ Some stated
+  pub branchings : b ≡ state.branchings
+  pub cuts : k ≡ length state.cuts
 
 -- the closing line states the answer of the state that was reached
-pub record Closes (old : Phase) (answer : Answer) (branchings cuts : ℕ) (new : Phase) : Type 0 where
+pub record Closes (old : Phase) (stated : Answer) (b k : ℕ) (new : Phase) : Type 0 where
   pub state : SearchState
   pub before : old ≡ Running state
-  pub answer : IsAnswer state answer branchings cuts
-  pub after : new ≡ Closed state answer
+  pub answer : IsAnswer state stated b k
+  pub after : new ≡ Closed state stated
 
 -- what a line says leads from one phase to the next
 abbrev pub Leads : ProblemParts → Phase → LogLine → Phase → Type 0

@@ -8,9 +8,9 @@ use Rattle.log_checker.specs.Breaking.{LineBreaks}
 -- an error that names a rule names the first that the line breaks
 abbrev pub NamesRule : CheckerParts → List ℕ → CheckError → Type 0
 NamesRule checker bytes Memory = Unit {0}
-NamesRule checker bytes (No no) = LineBreaks checker.problem checker.phase bytes no.rule
+NamesRule checker bytes (No refused) = LineBreaks checker.problem checker.phase bytes refused.rule
 
 -- such an error names the line's number
 abbrev pub NamesLine : CheckerParts → CheckError → Type 0
 NamesLine checker Memory = Unit {0}
-NamesLine checker (No no) = no.line ≡ next_line checker.lines
+NamesLine checker (No refused) = refused.line ≡ next_line checker.lines

@@ -1,0 +1,63 @@
+//! Laws of checking, each the contract of a function without a body.
+ghost use Rattle.std.specs.Prelude.{◌≡◌, ℕ, ◌≤◌, List, length, filter, Option, IfSome};
+ghost use Rattle.arch_model.specs.Library.{IsLibrary};
+ghost use Rattle.rows.specs.Parts.{ProblemParts};
+ghost use Rattle.rows.specs.Problem.{IsProblem};
+ghost use Rattle.search_core.specs.declared.rule.Rule.{Rule};
+ghost use Rattle.search_core.specs.declared.answer.Answer.{Answer};
+ghost use Rattle.search_core.specs.History.{is_branch};
+ghost use Rattle.search_core.specs.Solved.{NoneAdmissible};
+ghost use Rattle.proof_log.specs.Log.{LOG_BYTES, Accepts};
+ghost use Rattle.log_checker.specs.Phase.{Phase, IsClosedWith};
+ghost use Rattle.log_checker.specs.Phase as phases;
+ghost use Rattle.log_checker.specs.Feeding.{LineLeads, LinesLead};
+ghost use Rattle.log_checker.specs.Breaking.{LineBreaks};
+ghost use Rattle.log_checker.specs.Text.{IsMadeOf};
+ghost use Rattle.log_checker.specs.Yes.{IsCostOfOne, IsLeastCost, last_limit};
+
+use search_core::Answer;
+
+/// A line leads to one phase, or breaks one rule first, and never both.
+pub fn a_line_leads_on_or_breaks_one_rule_first()
+    ensures one_phase { (problem : ProblemParts) (old a b : Phase) (line : List ℕ)
+        → LineLeads problem old line a → LineLeads problem old line b → a ≡ b }
+    ensures one_rule { (problem : ProblemParts) (phase : Phase) (line : List ℕ) (a b : Rule)
+        → LineBreaks problem phase line a → LineBreaks problem phase line b → a ≡ b }
+    ensures never_both { (problem : ProblemParts) (old new : Phase) (line : List ℕ)
+        (broken : Rule)
+        → LineLeads problem old line new → LineBreaks problem old line broken → ⊥ }
+{}
+
+/// The lines of a text lead to a closing answer exactly where the text passes with that answer.
+pub fn a_text_passes_where_its_lines_lead_to_an_answer()
+    ensures passes { (problem : ProblemParts) (text : List ℕ) (lines : List (List ℕ))
+        (phase : Phase) (answer : Answer)
+        → IsMadeOf text lines → length text ≤ LOG_BYTES
+        → LinesLead problem phases.Begun lines phase → IsClosedWith answer phase
+        → Accepts problem text answer }
+    ensures leads { (problem : ProblemParts) (text : List ℕ) (lines : List (List ℕ))
+        (answer : Answer) → IsMadeOf text lines → Accepts problem text answer
+        → (phase : Phase) × LinesLead problem phases.Begun lines phase
+        × IsClosedWith answer phase }
+{}
+
+/// A yes is right for the library, whoever or whatever made the log. Where it is optimal, some
+/// admissible architecture has its cost and none is cheaper; where it is infeasible, none is
+/// admissible; at the node limit, the log's branchings are as many as the last limit that it
+/// states, and an incumbent's cost is that of an admissible architecture.
+pub fn a_yes_is_right()
+    ensures optimal { (problem : ProblemParts) (text : List ℕ)
+        → IsLibrary problem.library → IsProblem problem → (cost : ℕ)
+        → Accepts problem text (Answer.Optimal cost) → IsLeastCost problem.library cost }
+    ensures infeasible { (problem : ProblemParts) (text : List ℕ)
+        → IsLibrary problem.library → IsProblem problem
+        → Accepts problem text Answer.Infeasible → NoneAdmissible problem.library }
+    ensures limit { (problem : ProblemParts) (text : List ℕ)
+        → IsLibrary problem.library → IsProblem problem → (incumbent : Option ℕ)
+        → (x : Accepts problem text (Answer.NodeLimit incumbent))
+        → length (filter is_branch x.entries) ≡ last_limit x.limit x.entries }
+    ensures incumbent { (problem : ProblemParts) (text : List ℕ)
+        → IsLibrary problem.library → IsProblem problem → (incumbent : Option ℕ)
+        → Accepts problem text (Answer.NodeLimit incumbent)
+        → IfSome incumbent (IsCostOfOne problem.library) }
+{}

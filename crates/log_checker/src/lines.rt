@@ -1,5 +1,5 @@
 // What a line does that was read, by its kind.
-ghost use Rattle.std.specs.Prelude.{◌≡◌, ◌×◌, true, false, length, IfErr, OnOk, OnErr};
+ghost use Rattle.std.specs.Prelude.{◌≡◌, true, false, length, IfErr, OnOk, OnErr};
 ghost use Rattle.search_core.specs.declared.stepping.StepError.TheVariants.{Bad};
 ghost use Rattle.proof_log.specs.declared.log_line.LogLine.TheVariants as lines;
 ghost use Rattle.log_checker.specs.Feeding.{Leads, IsAnswer};
