@@ -28,7 +28,7 @@ same_said bytes x y a b = same_value x y a.readable.0.1 b.readable.0.1 a.readabl
 breaks_none : (bytes : List ℕ) (x : LogLine) → SaysLine bytes x → BreaksNone bytes
 breaks_none bytes x says = subst BreaksNone (sym says.text) (says.readable.1, (log_line x, says.readable.0.0, lists_ascend x, refl))
 
-same_running : {s t : SearchState} → Running s ≡ Running t → s ≡ t
+pub same_running : {s t : SearchState} → Running s ≡ Running t → s ≡ t
 same_running e = cc
 
 -- what is said leads to one phase
@@ -87,7 +87,7 @@ leads_unbroken problem old new (lines.Limit limit) first x breaks =
     let p : Limits old limit new = x in
     let P : Phase → Type 0 = λ phase. SaidBreaks problem phase (lines.Limit limit) first in
     let b : SaidBreaks problem Sized (lines.Limit limit) first = subst P p.before breaks in
-    passes (limit, (refl, p.few)) (passes (λ answer closed. closed) b)
+    passes (limit, refl, p.few) (passes (λ answer closed. closed) b)
 leads_unbroken problem old new (lines.Entry entry) first x breaks =
     let p : Enters problem old entry new = x in
     let P : Phase → Type 0 = λ phase. SaidBreaks problem phase (lines.Entry entry) first in

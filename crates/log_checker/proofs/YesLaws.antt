@@ -59,7 +59,7 @@ module _ (problem : ProblemParts) (text : List ℕ) (right : IsLibrary problem.l
   kept state reached = (reached_is_kept problem right is (right_cuts problem.library right) state reached).holds
 
   reached_by : (answer : Answer) (x : Accepts problem text answer) → IsReached problem x.state
-  reached_by answer x = (x.limit, (x.entries, x.legal))
+  reached_by answer x = (x.limit, x.entries, x.legal)
 
   pub yes_optimal : (cost : ℕ) → Accepts problem text (Optimal cost) → IsLeastCost problem.library cost
   yes_optimal cost x = least_from problem.library cost x.state.best (optimal_is_least problem x.state (kept x.state (reached_by (Optimal cost) x)) cost x.answers)
@@ -70,7 +70,9 @@ module _ (problem : ProblemParts) (text : List ℕ) (right : IsLibrary problem.l
   pub yes_limit : (incumbent : Option ℕ) (x : Accepts problem text (NodeLimit incumbent)) → length (filter is_branch x.entries) ≡ last_limit x.limit x.entries
   yes_limit incumbent x =
       let spent = (limit_is_spent problem x.state (kept x.state (reached_by (NodeLimit incumbent) x)) incumbent x.answers).0 in
-      sym (branches_are_counted problem x.entries (start_of x.limit) x.state x.legal.steps) ∙ spent.spent ∙ limit_is_last problem x.entries (start_of x.limit) x.state x.legal.steps
+      let counted : x.state.branchings ≡ 0 + length (filter is_branch x.entries) = branches_are_counted problem x.entries (start_of x.limit) x.state x.legal.steps in
+      let plain : x.state.branchings ≡ length (filter is_branch x.entries) = omega (arith, counted) in
+      sym plain ∙ spent.spent ∙ limit_is_last problem x.entries (start_of x.limit) x.state x.legal.steps
 
   pub yes_incumbent : (incumbent : Option ℕ) → Accepts problem text (NodeLimit incumbent) → IfSome incumbent (IsCostOfOne problem.library)
   yes_incumbent incumbent x =

@@ -82,7 +82,8 @@ impl Checker {
 
     // The number of the line that comes next.
     fn next_line(&self) -> u64
-        ensures { result ≡ next_line self.now.lines }
+        ensures number { result ≡ next_line self.now.lines }
+        ensures keeps { IsPhaseOf self.now.problem self.now.phase }
     {
         self.lines.saturating_add(1)
     }
