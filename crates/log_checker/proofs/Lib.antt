@@ -1,4 +1,5 @@
 pub mod LineLaws
 pub mod YesLaws
 pub mod PassingTexts
+pub mod TextLines
 pub mod WorkedLines
