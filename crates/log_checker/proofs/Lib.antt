@@ -1,3 +1,4 @@
+pub mod StageLaws
 pub mod LineLaws
 pub mod YesLaws
 pub mod PassingTexts
