@@ -53,13 +53,13 @@ line_leads_to_one problem old a b bytes x y =
     leads_to_one problem old a b y.said (subst P (same_said bytes x.said y.said x.says y.says) x.leads) y.leads
 
 -- where what a rule asks holds, another one is broken first, or none
-passes : {asking broken : Rule} {fact rest : Type 0} → fact → Breaks asking fact broken rest → rest
+pub passes : {asking broken : Rule} {fact rest : Type 0} → fact → Breaks asking fact broken rest → rest
 passes fact x = elim x [
   | inl p ↦ absurd (p.0 fact)
   | inr p ↦ p.1
 ]
 
-agree : {asking a b : Rule} {fact first second : Type 0} → (first → second → a ≡ b) → Breaks asking fact a first → Breaks asking fact b second → a ≡ b
+pub agree : {asking a b : Rule} {fact first second : Type 0} → (first → second → a ≡ b) → Breaks asking fact a first → Breaks asking fact b second → a ≡ b
 agree later x y = elim x [
   | inl p ↦ elim y [
     | inl q ↦ p.1 ∙ sym q.1

@@ -257,9 +257,9 @@ module _ (problem : ProblemParts) (phase : Phase) (answer : Answer) (closed : Is
   header_out (line ∷ rest) leads = version_said line rest leads.0 leads.1.said leads.1.says leads.1.leads leads.2
 
 -- the lines of a text that lead to an answer make it pass
-pub text_passes : (problem : ProblemParts) (text : List ℕ) (fed : List (List ℕ)) (phase : Phase) (answer : Answer)
-    → IsMadeOf text fed → length text ≤ LOG_BYTES → LinesLead problem Begun fed phase → IsClosedWith answer phase → Accepts problem text answer
-text_passes problem text fed phase answer made few leads closed =
+pub lines_pass : (problem : ProblemParts) (text : List ℕ) (fed : List (List ℕ)) (phase : Phase) (answer : Answer)
+    → text ≡ bytes_of fed → length text ≤ LOG_BYTES → LinesLead problem Begun fed phase → IsClosedWith answer phase → Accepts problem text answer
+lines_pass problem text fed phase answer parts few leads closed =
     let head = header_out problem phase answer closed fed leads in
     let out = head.out.1 in
     let said : List LogLine = log_lines problem head.limit out.entries answer out.end.branchings (length out.end.cuts) in
@@ -271,7 +271,31 @@ text_passes problem text fed phase answer made few leads closed =
       state = out.end;
       legal = record { few = head.few; steps = out.steps };
       answers = out.answers;
-      text = made.parts ∙ ap bytes_of fed_are ∙ bytes_of-written said;
+      text = parts ∙ ap bytes_of fed_are ∙ bytes_of-written said;
       readable = (head.version, (head.vars, (head.limits, out.readable)));
       few = few;
+    }
+
+pub text_passes : (problem : ProblemParts) (text : List ℕ) (fed : List (List ℕ)) (phase : Phase) (answer : Answer)
+    → IsMadeOf text fed → length text ≤ LOG_BYTES → LinesLead problem Begun fed phase → IsClosedWith answer phase → Accepts problem text answer
+text_passes problem text fed phase answer made few leads closed = lines_pass problem text fed phase answer made.parts few leads closed
+
+-- some lines lead to an answer, and a text is their bytes
+pub record HasLines (problem : ProblemParts) (text : List ℕ) (answer : Answer) : Type 0 where
+  pub fed : List (List ℕ)
+  pub end : Phase
+  pub leads : LinesLead problem Begun fed end
+  pub closed : IsClosedWith answer end
+  pub parts : text ≡ bytes_of fed
+
+-- a text that passes has such lines
+pub passing_lines : (problem : ProblemParts) (text : List ℕ) (answer : Answer) → Accepts problem text answer → HasLines problem text answer
+passing_lines problem text answer x =
+    let said : List LogLine = log_lines problem x.limit x.entries answer x.state.branchings (length x.state.cuts) in
+    record {
+      fed = written said;
+      end = Closed x.state answer;
+      leads = header_leads problem x.limit x.entries x.state answer x.legal.few x.legal.steps x.answers x.readable;
+      closed = refl;
+      parts = x.text ∙ sym (bytes_of-written said);
     }

@@ -12,7 +12,7 @@ ghost use Rattle.log_checker.specs.Phase.{Phase, IsClosedWith};
 ghost use Rattle.log_checker.specs.Phase as phases;
 ghost use Rattle.log_checker.specs.Feeding.{LineLeads, LinesLead};
 ghost use Rattle.log_checker.specs.Breaking.{LineBreaks};
-ghost use Rattle.log_checker.specs.Text.{IsMadeOf};
+ghost use Rattle.log_checker.specs.Text.{IsMadeOf, FirstBrokenLine};
 ghost use Rattle.log_checker.specs.Yes.{IsCostOfOne, IsLeastCost, last_limit};
 
 use search_core::Answer;
@@ -39,6 +39,18 @@ pub fn a_text_passes_where_its_lines_lead_to_an_answer()
         (answer : Answer) → IsMadeOf text lines → Accepts problem text answer
         → (phase : Phase) × LinesLead problem phases.Begun lines phase
         × IsClosedWith answer phase }
+{}
+
+/// A text has one first broken line at most, and breaks one rule there first; a text that passes
+/// has none.
+pub fn a_text_has_one_first_broken_line_at_most()
+    ensures one_line { (problem : ProblemParts) (text : List ℕ) (m n : ℕ) (a b : Rule)
+        → FirstBrokenLine problem text m a → FirstBrokenLine problem text n b → m ≡ n }
+    ensures one_rule { (problem : ProblemParts) (text : List ℕ) (m n : ℕ) (a b : Rule)
+        → FirstBrokenLine problem text m a → FirstBrokenLine problem text n b → a ≡ b }
+    ensures none_where_it_passes { (problem : ProblemParts) (text : List ℕ) (answer : Answer)
+        (n : ℕ) (broken : Rule)
+        → Accepts problem text answer → FirstBrokenLine problem text n broken → ⊥ }
 {}
 
 /// A yes is right for the library, whoever or whatever made the log. Where it is optimal, some
