@@ -5,4 +5,7 @@ pub mod PassingTexts
 pub mod TextLines
 pub mod ReadTexts
 pub mod FirstLines
+pub mod SaidLines
+pub mod EntriesJudged
+pub mod TextsJudged
 pub mod WorkedLines

@@ -42,9 +42,9 @@ module _ (problem : ProblemParts) (text : List ℕ) where
       → HasRead problem text (before ++ line ∷ []) new next.more
   one_more_read before phase new rest line read next fits leads = record {
     parts = read.parts
-    ∙ ap (λ (l : List ℕ). bytes_of before ++ l) next.parts
-    ∙ sym (append_assoc (bytes_of before) (ended line) next.more)
-    ∙ ap (λ (l : List ℕ). l ++ next.more) (sym (bytes_more before line));
+        ∙ ap (λ (l : List ℕ). bytes_of before ++ l) next.parts
+        ∙ sym (append_assoc (bytes_of before) (ended line) next.more)
+        ∙ ap (λ (l : List ℕ). l ++ next.more) (sym (bytes_more before line));
     few = omega (arith, fits, ap length (bytes_more before line), length-append (bytes_of before) (ended line));
     leads = lead_more problem Begun phase new before line read.leads leads;
   }

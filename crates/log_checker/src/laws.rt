@@ -41,9 +41,10 @@ pub fn a_text_passes_where_its_lines_lead_to_an_answer()
         × IsClosedWith answer phase }
 {}
 
-/// A text has one first broken line at most, and breaks one rule there first; a text that passes
-/// has none.
-pub fn a_text_has_one_first_broken_line_at_most()
+/// A text passes with an answer, or has a first broken line, and never both: there is one such line
+/// then, and one rule that it breaks first. That it can't be neither holds of each problem that the
+/// types admit.
+pub fn a_text_passes_or_has_one_first_broken_line()
     ensures one_line { (problem : ProblemParts) (text : List ℕ) (m n : ℕ) (a b : Rule)
         → FirstBrokenLine problem text m a → FirstBrokenLine problem text n b → m ≡ n }
     ensures one_rule { (problem : ProblemParts) (text : List ℕ) (m n : ℕ) (a b : Rule)
@@ -51,6 +52,10 @@ pub fn a_text_has_one_first_broken_line_at_most()
     ensures none_where_it_passes { (problem : ProblemParts) (text : List ℕ) (answer : Answer)
         (n : ℕ) (broken : Rule)
         → Accepts problem text answer → FirstBrokenLine problem text n broken → ⊥ }
+    ensures one_of_both { (problem : ProblemParts) (text : List ℕ)
+        → IsLibrary problem.library → IsProblem problem
+        → ((answer : Answer) → Accepts problem text answer → ⊥)
+        → ((n : ℕ) (broken : Rule) → FirstBrokenLine problem text n broken → ⊥) → ⊥ }
 {}
 
 /// A yes is right for the library, whoever or whatever made the log. Where it is optimal, some
