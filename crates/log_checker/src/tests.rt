@@ -39,7 +39,7 @@ fn a_log_with_a_prune_passes(rt: HostRuntime) -> Result<(), Fail> {
 }
 
 // Each change to one line of that log, and the first line that breaks a rule then.
-const CHANGES_OF_P: [(usize, &str, u64, Rule); 21] = [
+const CHANGES_OF_P: [(usize, &str, u64, Rule); 22] = [
     (11, "prune 0 1 - b0*1", 11, Rule::Reason),
     (11, "prune 0 1 - c0*1", 11, Rule::Row),
     (11, "prune 0 1 - u*0", 11, Rule::Number),
@@ -53,6 +53,7 @@ const CHANGES_OF_P: [(usize, &str, u64, Rule); 21] = [
     (3, "limit 0", 5, Rule::Limit),
     (11, "park 0 1", 11, Rule::Limit),
     (1, "archex-log 2", 1, Rule::Form),
+    (1, "archex-log 1\r", 1, Rule::Form),
     (2, "vars 3 0", 2, Rule::Header),
     (3, "limit 100001", 3, Rule::Header),
     (4, "take 64 0 0 none", 4, Rule::Worker),
@@ -188,21 +189,22 @@ fn a_later_cut_is_refused(rt: HostRuntime) -> Result<(), Fail> {
     Ok(())
 }
 
-// Feeds a first line of so many bytes, none of which is read, and tells which rule it breaks.
-fn rule_of_length(rt: &(impl Abort + AllocGlobal), bytes: usize) -> Result<Option<Rule>, Fail> {
+// Feeds the header lines of that log and then a line of so many bytes, which says nothing, and tells
+// which rule it breaks.
+fn rule_of_length(rt: &(impl Abort + AllocGlobal), bytes: usize) -> Result<Option<No>, Fail> {
     let problem = one_of(rt, Role::Source, 2, 3)?;
-    let line = logs::bytes_of(rt.alloc(), bytes)?;
+    let line = logs::letters(rt.alloc(), bytes)?;
     let mut checker = Checker::new(rt.alloc(), &problem)?;
-    logs::broken(rt, &mut checker, &line)
+    logs::refused_with(rt, &mut checker, &PASSING_P[..3], &line)
 }
 
 // A line of 65536 bytes is read, and has no form; a longer one isn't.
 #[test]
 fn a_longer_line_is_too_long(rt: HostRuntime) -> Result<(), Fail> {
-    let rule = rule_of_length(&rt, 65536)?;
-    assert_eq!(rt; rule, Some(Rule::Form));
-    let rule = rule_of_length(&rt, 65537)?;
-    assert_eq!(rt; rule, Some(Rule::TooLong));
+    for (bytes, rule) in [(65536, Rule::Form), (65537, Rule::TooLong)] {
+        let said = rule_of_length(&rt, bytes)?;
+        assert_eq!(rt; said, Some(No { line: 4, rule }));
+    }
     Ok(())
 }
 

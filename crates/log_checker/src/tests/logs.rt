@@ -139,10 +139,27 @@ pub(crate) fn expect(
 }
 
 // So many bytes, each the letter a.
-pub(crate) fn bytes_of(alloc: Global, count: usize) -> Result<Vec<u8>, Memory> {
+pub(crate) fn letters(alloc: Global, count: usize) -> Result<Vec<u8>, Memory> {
     let mut bytes = Vec::new(alloc);
     for _ in 0..count {
         bytes.push(b'a')?;
     }
     Ok(bytes)
+}
+
+// Feeds some lines and then one more, and tells why a line is refused.
+pub(crate) fn refused_with(
+    rt: &(impl Abort + AllocGlobal),
+    checker: &mut Checker,
+    lines: &[&str],
+    line: &[u8],
+) -> Result<Option<No>, Fail> {
+    if let Some(no) = refused(rt, checker, lines)? {
+        return Ok(Some(no));
+    }
+    match checker.feed(rt.alloc(), line) {
+        Ok(()) => Ok(None),
+        Err(CheckError::No(no)) => Ok(Some(no)),
+        Err(CheckError::Memory) => panic!(rt; "no memory"),
+    }
 }
