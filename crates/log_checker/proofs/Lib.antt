@@ -9,3 +9,4 @@ pub mod SaidLines
 pub mod EntriesJudged
 pub mod TextsJudged
 pub mod WorkedLines
+pub mod WorkedTexts

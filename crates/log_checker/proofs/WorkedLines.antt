@@ -38,7 +38,7 @@ three_is_not_two : lines.Vars 3 0 ≡ lines.Vars 2 0 → ⊥
 three_is_not_two e = cc
 
 -- the second line may state no other numbers
-sizes_break : LineBreaks problem_p Versioned (codes "vars 3 0") rule.Header
+pub sizes_break : LineBreaks problem_p Versioned (codes "vars 3 0") rule.Header
 unfolding digits
 sizes_break = inr (record {
   said = lines.Vars 3 0;
