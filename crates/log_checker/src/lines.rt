@@ -6,10 +6,10 @@ ghost use Rattle.log_checker.specs.Feeding.{Leads, IsAnswer};
 ghost use Rattle.log_checker.specs.Inner.Refused.{SaidFails, KeepsTheRest, place_rule};
 
 use crate::checker::{Checker, Stage};
-use crate::weighing::weights_for;
+use crate::weighing::weighed_step;
 use proof_log::LogLine;
 use search_core::limits::BRANCHINGS;
-use search_core::{Answer, Entry, Rule, State, StepError, start, step};
+use search_core::{Answer, Entry, Rule, State, StepError, start};
 use std::alloc::Global;
 
 // Where a header line comes whose place isn't this one: after the closing line that is the first
@@ -43,9 +43,11 @@ fn is_answer(state: &State, answer: Answer, branchings: u32, cuts: u32) -> bool
 impl Checker {
     // Takes the line that states the version.
     fn version(&mut self) -> Result<(), StepError>
-        ensures leads { OnOk result (Leads self.old.problem self.old.phase lines.Version self.new.phase) }
+        ensures leads { OnOk result
+            (Leads self.old.problem self.old.phase lines.Version self.new.phase) }
         ensures rest { KeepsTheRest self.old self.new }
-        ensures broken { IfErr result (SaidFails self.old.problem self.old.phase lines.Version) }
+        ensures broken { IfErr result
+            (SaidFails self.old.problem self.old.phase lines.Version) }
         ensures unchanged { OnErr result (self.new ≡ self.old) }
     {
         match self.stage {
@@ -73,9 +75,11 @@ impl Checker {
 
     // Takes the line that states the numbers of components and edges.
     fn vars(&mut self, components: u32, edges: u32) -> Result<(), StepError>
-        ensures leads { OnOk result (Leads self.old.problem self.old.phase (lines.Vars components edges) self.new.phase) }
+        ensures leads { OnOk result
+            (Leads self.old.problem self.old.phase (lines.Vars components edges) self.new.phase) }
         ensures rest { KeepsTheRest self.old self.new }
-        ensures broken { IfErr result (SaidFails self.old.problem self.old.phase (lines.Vars components edges)) }
+        ensures broken { IfErr result
+            (SaidFails self.old.problem self.old.phase (lines.Vars components edges)) }
         ensures unchanged { OnErr result (self.new ≡ self.old) }
     {
         match self.stage {
@@ -92,9 +96,11 @@ impl Checker {
 
     // Takes the line that states the limit, from which on there is a state.
     fn limit(&mut self, alloc: Global, limit: u32) -> Result<(), StepError>
-        ensures leads { OnOk result (Leads self.old.problem self.old.phase (lines.Limit limit) self.new.phase) }
+        ensures leads { OnOk result
+            (Leads self.old.problem self.old.phase (lines.Limit limit) self.new.phase) }
         ensures rest { KeepsTheRest self.old self.new }
-        ensures broken { IfErr result (SaidFails self.old.problem self.old.phase (lines.Limit limit)) }
+        ensures broken { IfErr result
+            (SaidFails self.old.problem self.old.phase (lines.Limit limit)) }
         ensures unchanged { OnErr result (self.new ≡ self.old) }
     {
         match self.stage {
@@ -115,27 +121,27 @@ impl Checker {
 
     // Takes an entry, which is a step from the state.
     fn enter(&mut self, alloc: Global, entry: &Entry) -> Result<(), StepError>
-        ensures leads { OnOk result (Leads self.old.problem self.old.phase (lines.Entry entry.now) self.new.phase) }
+        ensures leads { OnOk result
+            (Leads self.old.problem self.old.phase (lines.Entry entry.now) self.new.phase) }
         ensures rest { KeepsTheRest self.old self.new }
-        ensures broken { IfErr result (SaidFails self.old.problem self.old.phase (lines.Entry entry.now)) }
+        ensures broken { IfErr result
+            (SaidFails self.old.problem self.old.phase (lines.Entry entry.now)) }
         ensures unchanged { OnErr result (self.new ≡ self.old) }
     {
         match self.stage {
-            Stage::Running => {
-                let Ok(weights) = weights_for(alloc, &self.state, &self.problem, entry) else {
-                    return Err(StepError::Memory);
-                };
-                step(&mut self.state, &self.problem, entry, &weights)
-            }
+            Stage::Running => weighed_step(alloc, &mut self.state, &self.problem, entry),
             stage => Err(out_of_place(stage)),
         }
     }
 
     // Takes the closing line.
     fn close(&mut self, answer: Answer, branchings: u32, cuts: u32) -> Result<(), StepError>
-        ensures leads { OnOk result (Leads self.old.problem self.old.phase (lines.Closing answer branchings cuts) self.new.phase) }
+        ensures leads { OnOk result
+            (Leads self.old.problem self.old.phase (lines.Closing answer branchings cuts)
+            self.new.phase) }
         ensures rest { KeepsTheRest self.old self.new }
-        ensures broken { IfErr result (SaidFails self.old.problem self.old.phase (lines.Closing answer branchings cuts)) }
+        ensures broken { IfErr result
+            (SaidFails self.old.problem self.old.phase (lines.Closing answer branchings cuts)) }
         ensures unchanged { OnErr result (self.new ≡ self.old) }
     {
         match self.stage {
@@ -152,9 +158,11 @@ impl Checker {
 
     // Takes what a line says.
     pub(crate) fn take(&mut self, alloc: Global, said: &LogLine) -> Result<(), StepError>
-        ensures leads { OnOk result (Leads self.old.problem self.old.phase said.now self.new.phase) }
+        ensures leads { OnOk result
+            (Leads self.old.problem self.old.phase said.now self.new.phase) }
         ensures rest { KeepsTheRest self.old self.new }
-        ensures broken { IfErr result (SaidFails self.old.problem self.old.phase said.now) }
+        ensures broken { IfErr result
+            (SaidFails self.old.problem self.old.phase said.now) }
         ensures unchanged { OnErr result (self.new ≡ self.old) }
     {
         match said {

@@ -189,8 +189,8 @@ fn a_later_cut_is_refused(rt: HostRuntime) -> Result<(), Fail> {
     Ok(())
 }
 
-// Feeds the header lines of that log and then a line of so many bytes, which says nothing, and tells
-// which rule it breaks.
+// Feeds the header lines of that log and then a line of so many letters, and tells which rule it
+// breaks.
 fn rule_of_length(rt: &(impl Abort + AllocGlobal), bytes: usize) -> Result<Option<No>, Fail> {
     let problem = one_of(rt, Role::Source, 2, 3)?;
     let line = logs::letters(rt.alloc(), bytes)?;

@@ -1,12 +1,14 @@
-// The weights that come with an entry.
-ghost use Rattle.std.specs.Prelude.{◌≡◌, IfOk};
+// The step of an entry, with the weights that it asks for.
+ghost use Rattle.std.specs.Prelude.{◌≡◌, IfOk, IfErr, OnOk, OnErr};
 ghost use Rattle.arch_model.specs.Architecture.{IsArchitecture};
 ghost use Rattle.search_core.specs.Parts.{IsStateOf};
+ghost use Rattle.search_core.specs.Step.{Step};
 ghost use Rattle.search_core.specs.Rules.{AreItsWeights, HasWeights, weights_of};
+ghost use Rattle.log_checker.specs.Inner.Refused.{EntryFails};
 
 use arch_model::{Architecture, Library, Memory};
 use rows::{Problem, variable_count};
-use search_core::{Entry, State};
+use search_core::{Entry, State, StepError, step};
 use sink_weight::weight;
 use std::alloc::Global;
 
@@ -45,7 +47,7 @@ fn candidate_weights(
 }
 
 // The weights that come with an entry: those of the candidate that an Accept or a Publish names.
-pub(crate) fn weights_for(
+fn weights_for(
     alloc: Global,
     state: &State,
     problem: &Problem,
@@ -64,4 +66,24 @@ pub(crate) fn weights_for(
         }
         _ => Ok(Vec::new(alloc)),
     }
+}
+
+// Takes the step of an entry. Where it isn't one, the first rule that it breaks is told, unless
+// memory ran out, and the state stays.
+pub(crate) fn weighed_step(
+    alloc: Global,
+    state: &mut State,
+    problem: &Problem,
+    entry: &Entry,
+) -> Result<(), StepError>
+    requires { IsStateOf problem.now state.old }
+    ensures ok { OnOk result (Step problem.now state.old.search entry.now state.new.search) }
+    ensures of { IsStateOf problem.now state.new }
+    ensures bad { IfErr result (λ e. EntryFails problem.now state.old.search entry.now e) }
+    ensures unchanged { OnErr result (state.new ≡ state.old) }
+{
+    let Ok(weights) = weights_for(alloc, state, problem, entry) else {
+        return Err(StepError::Memory);
+    };
+    step(state, problem, entry, &weights)
 }

@@ -11,6 +11,6 @@ returns-in_default c = record {
   unchanged = refl;
 }
 
-pub returns-in-Ok-clause-leads : goal.returns-in-Ok-clause-leads
-returns-in-Ok-clause-leads c =
-    enters_where_ok c.step.result c.args.self.now.problem c.self.inside.problem c.args.self.now.phase c.self.inside.stage c.self.inside.state.search c.step.new.state.search c.args.entry.now (ap (λ v. v.problem) c.self.view_is) (ap (λ v. v.phase) c.self.view_is) c.in-Running.is c.step.ensures.ok
+pub returns-in-Running-clause-leads : goal.returns-in-Running-clause-leads
+returns-in-Running-clause-leads c =
+    enters_where_ok c.weighed_step.result c.args.self.now.problem c.self.inside.problem c.args.self.now.phase c.self.inside.stage c.self.inside.state.search c.weighed_step.new.state.search c.args.entry.now (ap (λ v. v.problem) c.self.view_is) (ap (λ v. v.phase) c.self.view_is) c.in-Running.is c.weighed_step.ensures.ok
