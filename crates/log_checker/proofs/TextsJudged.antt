@@ -1,9 +1,6 @@
 -- A text passes or has a first broken line: it can't be that it does neither.
 use Rattle.std.proofs.Common.{◌≡◌, ◌⊎◌, ℕ, zero, suc, ◌+◌, ◌≤◌, List, [], ◌∷◌, ◌++◌, length, codes, refl, sym, ap, subst, arith, inl, inr, ⊎_elim}
-use Rattle.std.specs.List.{All, AllByRecursion}
-use Rattle.std.proofs.lemmas.Bool.{cases_eq}
 use Rattle.std.proofs.lemmas.List.{length-append}
-use Rattle.std.proofs.lemmas.List.Elements.{recursion_from_All, All-from_recursion}
 use Rattle.arch_model.specs.Library.{IsLibrary}
 use Rattle.rows.specs.Parts.{ProblemParts}
 use Rattle.rows.specs.Problem.{IsProblem}
@@ -22,10 +19,10 @@ use Rattle.proof_log.proofs.FirstFaults.{none_unless_first}
 use Rattle.log_checker.specs.Phase.{Phase, Begun, Versioned, Sized, Running, Closed, IsPhaseOf, IsUnclosed}
 use Rattle.log_checker.specs.Feeding.{Leads, LineLeads}
 use Rattle.log_checker.specs.Breaking.{rule_of, IsInPlace, PlacedBreaks, SaidBreaks, LineBreaks}
-use Rattle.log_checker.specs.Text.{LINE_FEED, HasNoFeed, bytes_of, HasLine, WholeBreaks, TailBreaks, HasRead, FirstBrokenLine}
+use Rattle.log_checker.specs.Text.{HasNoFeed, bytes_of, HasLine, WholeBreaks, TailBreaks, HasRead, FirstBrokenLine}
 use Rattle.log_checker.proofs.SaidLines.{says_something}
 use Rattle.log_checker.proofs.EntriesJudged.{ask, entry_is_judged}
-use Rattle.log_checker.proofs.ReadTexts.{none_read, one_more_read, all_read, broken_there}
+use Rattle.log_checker.proofs.ReadTexts.{begins, none_read, one_more_read, all_read, broken_there}
 
 -- ---- one line
 
@@ -58,25 +55,6 @@ module _ (problem : ProblemParts) (its_library : IsLibrary problem.library) (its
       let said_unbroken : (r : Rule) → SaidBreaks problem phase its.0 r → ⊥ = λ r x. unbroken r (inr (record { said = its.0; says = its.1; first = x })) in
       ask said_unbroken (λ unclosed unbroken. ask unbroken (λ place unbroken.
       placed_is_judged phase its.0 kept its.1.readable.0.0 unclosed place unbroken (λ new leads kept. go new (record { said = its.0; says = its.1; leads = leads }) kept)))
-
--- ---- the next line of a text
-
-free_more : (b : ℕ) (bytes : List ℕ) → (b ≡ LINE_FEED → ⊥) → HasNoFeed bytes → HasNoFeed (b ∷ bytes)
-free_more b bytes other none = All-from_recursion (λ b. b ≡ LINE_FEED → ⊥) (b ∷ bytes) (other, recursion_from_All (λ b. b ≡ LINE_FEED → ⊥) bytes none)
-
-none_free : HasNoFeed []
-none_free = All-from_recursion (λ b. b ≡ LINE_FEED → ⊥) [] tt
-
--- a text begins with a whole line, or has no line feed
-begins : (bytes : List ℕ) → ((line : List ℕ) × HasLine bytes line) ⊎ HasNoFeed bytes
-begins [] = inr none_free
-begins (b ∷ bytes) = ⊎_elim
-    (λ (e : b ≡ LINE_FEED). inl ([], record { one = none_free; more = bytes; parts = λ i. e i ∷ bytes }))
-    (λ (other : b ≡ LINE_FEED → ⊥). ⊎_elim
-    (λ (h : (line : List ℕ) × HasLine bytes line). inl (b ∷ h.0, record { one = free_more b h.0 other h.1.one; more = h.1.more; parts = λ i. b ∷ h.1.parts i }))
-    (λ (none : HasNoFeed bytes). inr (free_more b bytes other none))
-    (begins bytes))
-    (cases_eq b LINE_FEED)
 
 -- ---- a text
 
