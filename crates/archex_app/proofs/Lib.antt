@@ -17,3 +17,4 @@ pub mod Headline
 pub mod MassHeadline
 pub mod KeyLaws
 mod WorkedRows
+mod WorkedSearch

@@ -9,10 +9,10 @@ use Rattle.rows.specs.Problem.{IsProblem, problem_parts}
 use Rattle.search_core.specs.declared.entry.Entry.{Entry}
 use Rattle.search_core.specs.declared.answer.Answer.{Answer}
 use Rattle.search_core.specs.State.{SearchState, start_of}
+use Rattle.search_core.specs.Step.{NamesWorkerBelow}
 use Rattle.search_core.specs.History.{Reaches, HasNoReopen}
 use Rattle.search_core.specs.Diligent.{IsDiligent}
 use Rattle.search_core.specs.Answers.{answer_of}
-use Rattle.node_pool.specs.Pool.{NamesWorkerBelow}
 use Rattle.proof_log.specs.Log.{log_text_of}
 
 -- a library with its base rows

@@ -51,6 +51,8 @@ mod tests_of_cubes;
 #[cfg(test)]
 mod tests_of_cuts;
 #[cfg(test)]
+mod tests_of_examples;
+#[cfg(test)]
 mod tests_of_probability;
 #[cfg(test)]
 mod tests_of_requirements;

@@ -32,7 +32,7 @@ require = [{sink = \"t.1\", bound = 220000000000000000}]
 ";
 
 // An aircraft's power network with a left, right, auxiliary (s) and emergency (e) side.
-const AIRCRAFT: &[u8] = b"type = [
+pub(crate) const AIRCRAFT: &[u8] = b"type = [
   {name = \"lgen\", role = \"source\", cost = 100, supply = 100, fail = 100},
   {name = \"rgen\", role = \"source\", cost = 100, supply = 100, fail = 100},
   {name = \"apu\", role = \"source\", cost = 60, supply = 60, fail = 500},
@@ -202,6 +202,18 @@ weight load.1 1000000000000000000 of 1000000000000000000\n"
         )
     );
     assert!(rt; report.ends_with(b"\ncuts 0\n"));
+    Ok(())
+}
+
+// With no branching to make, the root of the search is parked at once, and no best is found.
+#[test]
+fn no_branching_finds_nothing(rt: HostRuntime) -> Result<(), Fail> {
+    let library = two_buses(rt.alloc(), "{sink = \"load.1\", bound = 1100000000000000}")?;
+    let words = &["solve", "x.toml", "x.log", "0", "1", "0"];
+    let (ended, printed) = run_on(rt.alloc(), words, library.as_bytes(), &[])?;
+    assert_eq!(rt; ended, Status(2));
+    let none = b"status nodelimit\nincumbent none\nbranchings 0\ncuts 0\n";
+    assert_eq!(rt; printed.as_slice(), none.as_slice());
     Ok(())
 }
 

@@ -1,6 +1,7 @@
 // Searches that end at their limit of branchings, how many branchings searches take, and their logs.
 use crate::Status;
 use crate::tests::{logged_on, run_on, without_counts};
+use crate::tests_of_examples::DATA_HALL;
 use std::alloc::{AllocError, Global};
 use std::test::Fail;
 
@@ -80,12 +81,12 @@ require = [
 ";
 
 // Twelve pairs are bought with twelve branchings: every node that is still open after the first
-// candidate is pruned. For the other two nothing is promised: their numbers, which docs/MAP.md tells
-// of, are those of today's choice of the variable to branch on.
+// candidate is pruned. For the others nothing is promised: their numbers, which docs/MAP.md tells of,
+// are those of today's choice of the variable to branch on.
 #[test]
 fn bounds_save_branchings(rt: HostRuntime) -> Result<(), Fail> {
     let limited = &["solve", "x.toml", "x.log", "200", "1", "0"];
-    let rows: [(&[u8], &[u8], &[u8]); 3] = [
+    let rows: [(&[u8], &[u8], &[u8]); 4] = [
         (
             TWELVE_PAIRS,
             b"status optimal\ncost 120\n",
@@ -96,6 +97,11 @@ fn bounds_save_branchings(rt: HostRuntime) -> Result<(), Fail> {
             HALL_ON_BOTH_UPS,
             b"status optimal\n",
             b"branchings 1\ncuts 0\n",
+        ),
+        (
+            DATA_HALL,
+            b"status optimal\ncost 203\n",
+            b"branchings 12\ncuts 5\n",
         ),
     ];
     for (library, front, end) in rows {
@@ -213,12 +219,26 @@ fn short_logs_are_as_they_must_be(rt: HostRuntime) -> Result<(), Fail> {
         (
             b"",
             Status(0),
-            b"archex-log 1\nvars 0 0\nlimit 0\ntake 0 0 0 none\noffer 0 0 -\nstudy 0 0\naccept 0 0 0\nanswer optimal 0 0 0\n",
+            b"archex-log 1
+vars 0 0
+limit 0
+take 0 0 0 none
+offer 0 0 -
+study 0 0
+accept 0 0 0
+answer optimal 0 0 0
+",
         ),
         (
             TWO_CHAINS,
             Status(2),
-            b"archex-log 1\nvars 5 6\nlimit 0\ntake 0 0 0 none\npark 0 0\nanswer nodelimit none 0 0\n",
+            b"archex-log 1
+vars 5 6
+limit 0
+take 0 0 0 none
+park 0 0
+answer nodelimit none 0 0
+",
         ),
     ];
     let words = &["solve", "x.toml", "x.log", "0", "1", "0"];
