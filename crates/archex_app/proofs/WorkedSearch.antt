@@ -1,5 +1,5 @@
 -- Worked rows: the search of a library with one component, which is asked for, entry by entry; its log, its report, and what `solve` comes to.
-use Rattle.std.proofs.Common.{◌≡◌, ℕ, ◌<◌, ◌≤◌, lit<, lit≤, true, false, nat_eq, nat_lt, if◌then◌else◌, pos, List, [], ◌∷◌, map, length, codes, Option, Some, None, refl, sym, ap, subst, ◌∙◌, arith}
+use Rattle.std.proofs.Common.{◌≡◌, ℕ, ◌+◌, ◌<◌, ◌≤◌, lit<, lit≤, Bool, true, false, nat_eq, nat_lt, if◌then◌else◌, pos, List, [], ◌∷◌, map, length, codes, Option, Some, None, refl, sym, ap, subst, ◌∙◌, arith}
 use Rattle.std.specs.Prelude.{IsTrue, count_by, ◌≢◌, unsigned_abs}
 use Rattle.std.specs.List.{All, list_all}
 use Rattle.std.specs.Fmt.{digits}
@@ -10,12 +10,10 @@ use Rattle.std.proofs.lemmas.Bool.{ltb-true}
 use Rattle.std.proofs.lemmas.List.Elements.{All-from_recursion}
 use Rattle.arch_model.specs.declared.library.TypeRow.{TypeRow}
 use Rattle.arch_model.specs.declared.library.Pattern.TheVariants.{Count}
-use Rattle.arch_model.specs.declared.template.Component.{Component}
 use Rattle.arch_model.specs.declared.template.Edge.{Edge}
 use Rattle.arch_model.specs.declared.template.Role.TheVariants.{Middle}
-use Rattle.arch_model.specs.Set.{has, empty, put as with_member}
+use Rattle.arch_model.specs.Set.{has, empty, put as with_member, members_below}
 use Rattle.arch_model.specs.Parts.{LibraryParts}
-use Rattle.arch_model.specs.Name.{IsTypeName}
 use Rattle.arch_model.specs.Library.{library_parts, IsLibrary, IsTypeRow, IsPatternRow}
 use Rattle.arch_model.specs.Template.{template_of}
 use Rattle.arch_model.specs.Architecture.{IsArchitecture, present_components, present_edges, cost_of}
@@ -24,19 +22,18 @@ use Rattle.arch_model.specs.Admissible.{IsAdmissible}
 use Rattle.arch_model.proofs.Members.{and_left}
 use Rattle.rows.specs.declared.row.Term.{Term}
 use Rattle.rows.specs.declared.known.RowRef.TheVariants.{Base}
-use Rattle.rows.specs.Parts.{RowParts, CubeParts, ProblemParts}
+use Rattle.rows.specs.Parts.{RowParts, CubeParts}
 use Rattle.rows.specs.Row.{term, IsRow}
 use Rattle.rows.specs.Cube.{whole, fixed_at, IsFull}
 use Rattle.rows.specs.Activity.{is_refuted}
 use Rattle.rows.specs.BaseRows.{base_rows_of}
-use Rattle.rows.specs.Problem.{IsProblem, problem_parts}
+use Rattle.rows.specs.Problem.{IsProblem}
 use Rattle.binary_program.proofs.Deciding.{decides}
 use Rattle.redundancy_cut.specs.CutRow.{set_of_numbers}
 use Rattle.incumbent.specs.declared.best.Best.{Best}
 use Rattle.incumbent.specs.Best.{best_cost}
 use Rattle.search_core.specs.declared.entry.Entry.{Entry}
 use Rattle.search_core.specs.declared.entry.Entry.TheVariants.{Take, Offer, Study, Accept, Park}
-use Rattle.search_core.specs.declared.answer.Answer.{Answer}
 use Rattle.search_core.specs.declared.answer.Answer.TheVariants.{Optimal, NodeLimit}
 use Rattle.search_core.specs.Node.{Node, Open, Held, Pending, Studied, Parked, is_pending, is_parked}
 use Rattle.search_core.specs.State.{SearchState, start_of}
@@ -47,12 +44,12 @@ use Rattle.search_core.specs.Diligent.{IsDiligent, TakesLast, StudiesLast}
 use Rattle.search_core.specs.Answers.{answer_by, answer_of}
 use Rattle.search_core.proofs.Candidates.{has-where}
 use Rattle.search_core.proofs.Places.{get-map, entries-map, set_map, remove_map}
-use Rattle.search_core.proofs.WorkedRows.{Listed, nodes_of, each_listed, at, at_start, at_1, at_end, start_listed, root-last}
+use Rattle.search_core.proofs.WorkedRows.{Listed, nodes_of, each_listed, at_start, at_1, at_end, start_listed, root-last}
 use Rattle.archex_app.specs.Status.{done}
 use Rattle.archex_app.specs.Due.{ends}
 use Rattle.archex_app.specs.Search.{base_problem, IsSearch, search_log}
 use Rattle.archex_app.specs.Searched.{IsLimitSpent}
-use Rattle.archex_app.specs.Report.{search_report, ending_of}
+use Rattle.archex_app.specs.Report.{search_report}
 use Rattle.archex_app.specs.ComesTo.{SearchComesTo}
 
 -- X: one component of cost 7, which is asked for
@@ -91,7 +88,7 @@ x-rows = refl
 
 x-row : IsRow row_x
 x-row = record {
-  ascending = λ i j d lt within. absurd (omega arith);
+  ascending = λ i within. absurd (omega (arith, within));
   nonzero = All-from_recursion (λ (t : Term). t.coef ≢ pos 0) row_x.terms ((λ e. cc), tt);
   sized = All-from_recursion (λ (t : Term). unsigned_abs t.coef ≤ 10000000000000000) row_x.terms (lit≤ tt, tt);
   least = lit≤ tt;
@@ -266,7 +263,7 @@ unfolding digits
 log_x = refl
 
 report_x : search_report lib_x (at_0 at_end best_x) (Optimal 7) ≡ codes "status optimal\ncost 7\nkind,from,to\ncomponent,x.1,\nbranchings 0\ncuts 0\n"
-unfolding digits candidate_of has empty with_member set_of_numbers
+unfolding digits candidate_of has empty with_member set_of_numbers members_below
 report_x = refl
 
 -- what `solve` comes to with the log b

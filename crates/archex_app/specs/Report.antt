@@ -1,5 +1,5 @@
 -- The texts that are printed, as bytes.
-use Rattle.std.specs.Prelude.{List, ℕ, [], ◌++◌, codes, length, Option, Some, None}
+use Rattle.std.specs.Prelude.{List, ℕ, ◌++◌, codes, length, Option, Some, None}
 use Rattle.std.specs.Fmt.{decimal}
 use Rattle.std.specs.List.{flat_map}
 use Rattle.arch_model.specs.declared.library.Requirement.{Requirement}
