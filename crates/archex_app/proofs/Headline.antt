@@ -19,12 +19,12 @@ use Rattle.archex_app.specs.Refusal.{refused_library_text}
 use Rattle.archex_app.specs.Search.{base_problem, IsSearch, search_log}
 use Rattle.archex_app.specs.Report.{search_report, ending_of}
 use Rattle.archex_app.specs.Answer.{ShowsCheapest, ShowsInfeasible, ShowsNodeLimit, ShowsRefusal, ShowsReport, Prints, PrintsFront}
-use Rattle.archex_app.specs.Searched.{Answered, ShowsSearch, IsLogFront, LeavesLog}
+use Rattle.archex_app.specs.Searched.{Answered, ShowsSearch, SomeSearch, IsLogFront, LeavesLog, CutsText}
 use Rattle.archex_app.specs.ComesTo.{ComesTo, SearchComesTo, ALONE, EndsWith}
 use Rattle.archex_app.specs.Complete.{Solves, Completes}
 use Rattle.archex_app.specs.Run.{Seen, names_of, RoseAmong, PrintsFrontOf, EndsAsDue, FailsToRead, FailsAtFile, FailsAtText, FailsToWrite, HoldsAll, HoldsFronts, WantsMemory, Runs}
 use Rattle.archex_app.proofs.RunLaws.{apart}
-use Rattle.archex_app.proofs.SearchAnswers.{optimal_shows, infeasible_shows, limit_shows, some_admissible, none_admissible, least_best, best_admissible, limit_spent, cuts_hold}
+use Rattle.archex_app.proofs.SearchAnswers.{optimal_shows, infeasible_shows, limit_shows, some_admissible, none_admissible, least_best, best_admissible, limit_spent, complete_unless, cuts_hold}
 use Rattle.archex_app.proofs.PassingLogs.{search_passes}
 use Rattle.archex_app.proofs.Within.{only_one, same_ending, same_files, same_text, no_read, words_read}
 use Rattle.archex_app.proofs.AllRuns.{as_due, as_read, as_write, as_memory, write_rose}
@@ -173,6 +173,7 @@ searched_from ask status before now due bytes told w = record {
   optimal = λ cost is. least_best w.lib ask.branchings ALONE ALONE w.entries w.state cost (subst (λ (a : Answer). IsSearch w.lib ask.branchings ALONE ALONE w.entries w.state a) is w.search);
   none_meets = λ is. none_admissible w.lib ask.branchings ALONE ALONE w.entries w.state (subst (λ (a : Answer). IsSearch w.lib ask.branchings ALONE ALONE w.entries w.state a) is w.search);
   at_limit = λ incumbent is. limit_spent w.lib ask.branchings ALONE ALONE w.entries w.state incumbent (subst (λ (a : Answer). IsSearch w.lib ask.branchings ALONE ALONE w.entries w.state a) is w.search);
+  complete = complete_unless w.lib ask.branchings ALONE ALONE w.entries w.state w.answer w.search;
   best = best_admissible w.lib ask.branchings ALONE ALONE w.entries w.state w.answer w.search;
   ended_so = due.ended_so ∙ ap status_of w.ending_is;
   printed = subst (λ (t : List ℕ). Appends before.printed now.printed t) w.text_is due.printed;
@@ -216,13 +217,26 @@ nothing_more before (Some bytes) is = (bytes, sym is, sym (append-nil bytes))
 cut_text : (files : List (List ℕ × List ℕ)) (text : List ℕ) (before now : Seen) → FailsAtFile files before now ⊎ FailsAtText files text before now → PrintsFrontOf text before now
 cut_text files text before now cause = elim cause [ inl w ↦ ([], text, refl, nothing_more before.printed now.printed w.printed) | inr w ↦ w.printed ]
 
-pub cut : (ask : SolveWords) (status : Status) (before now : Seen) → Solving ask status before now → status ≡ status_of write_fault → PrintsFront (ShowsReport ask.branchings) (before.told ask.lib) before.printed now.printed
-cut ask status before now run is =
+pub cut_short : (ask : SolveWords) (status : Status) (before now : Seen) → Solving ask status before now → status ≡ status_of write_fault → PrintsFront (ShowsReport ask.branchings) (before.told ask.lib) before.printed now.printed
+cut_short ask status before now run is =
     let w : FailsToWrite (ComesTo before.told (Ok (solve ask))) status before now = as_write _ status before now run.goes.ended is in
     let found = solve_shows before.told ask w.ending w.files w.text w.due in
     let part = cut_text w.files w.text before now w.cause in
     let P : List ℕ → Type 0 = ShowsReport ask.branchings found.0 in
     record { bytes = found.0; told = found.1; front = part.0; rest = part.1; shows = subst P part.2 (shows_answer ask found.0 w.ending w.files w.text found.2); printed = part.3 }
+
+-- what was found is some search
+abbrev one_search : (ask : SolveWords) (told : Option (List ℕ)) (bytes text : List ℕ) (ending : Ending) (files : List (List ℕ × List ℕ)) → IfSome told (λ all. bytes ≡ all) → Found ask bytes ending files text → SomeSearch ALONE ALONE ask told
+one_search ask told bytes text ending files reads w = record {
+  bytes = bytes;
+  told = reads;
+  lib = w.lib;
+  read = w.read;
+  entries = w.entries;
+  state = w.state;
+  answer = w.answer;
+  search = w.search;
+}
 
 -- what is left under the log's name by a run that stopped before its end
 front_at : (ask : SolveWords) (told log_before log_now : Option (List ℕ)) (bytes text : List ℕ) (ending : Ending) (files : List (List ℕ × List ℕ)) → IfSome told (λ all. bytes ≡ all) → (w : Found ask bytes ending files text)
@@ -230,18 +244,7 @@ front_at : (ask : SolveWords) (told log_before log_now : Option (List ℕ)) (byt
 front_at ask told log_before None bytes text ending files reads w left = inr tt
 front_at ask told log_before (Some front) bytes text ending files reads w left = elim left [
   | inl same ↦ inl same
-  | inr part ↦ inr (record {
-    bytes = bytes;
-    told = reads;
-    lib = w.lib;
-    read = w.read;
-    entries = w.entries;
-    state = w.state;
-    answer = w.answer;
-    search = w.search;
-    rest = part.0;
-    log = part.1;
-  })
+  | inr part ↦ inr (record { one = one_search ask told bytes text ending files reads w; rest = part.0; log = part.1 })
 ]
 
 abbrev LeftAt : List ℕ → List ℕ → Seen → Seen → Type 0
@@ -317,6 +320,44 @@ write_rose_at ask status before now run is = elim (write_rose (Ok (solve ask)) s
   | inl rose ↦ inl rose
   | inr w ↦ let P : List ℕ → Type 0 = λ n. Rose (before.writes n) (now.writes n) in inr (subst P (only_one ask.log w.0 w.1) w.2)
 ]
+
+-- the file that a search writes is its log
+log_named : (ask : SolveWords) (bytes : List ℕ) (ending : Ending) (files : List (List ℕ × List ℕ)) (text : List ℕ) → SolveShows ask bytes ending files text → (name : List ℕ) → Contains (names_of files) name → name ≡ ask.log
+log_named ask bytes ending files text shows name due =
+    let P : List (List ℕ × List ℕ) → Type 0 = λ l. Contains (names_of l) name in
+    elim shows [ inl w ↦ only_one ask.log name (subst P w.files_are due) | inr w ↦ absurd (nothing_in files name w.2 due) ]
+
+-- where the log could be written and the text not, the log stands whole
+cut_at : (ask : SolveWords) (before now : Seen) (ending : Ending) (files : List (List ℕ × List ℕ)) (text : List ℕ) → Shown before.told ask ending files text → FailsAtText files text before now
+    → CutsText ALONE ALONE ask (before.told ask.lib) (before.told ask.log) (now.told ask.log) before.printed now.printed
+cut_at ask before now ending files text found at = elim found.2 [
+  | inl w ↦ inl (record {
+    one = one_search ask (before.told ask.lib) found.0 text ending files found.1 w;
+    log = only_file ask.log (search_log w.lib ask.branchings w.entries w.state w.answer) files before now w.files_are at.holds;
+    front = at.printed.0;
+    rest = at.printed.1;
+    report = sym w.text_is ∙ at.printed.2;
+    printed = at.printed.3;
+  })
+  | inr w ↦
+      let P : List ℕ → Type 0 = ShowsRefusal found.0 in
+      inr (record {
+        refusal = record { bytes = found.0; told = found.1; front = at.printed.0; rest = at.printed.1; shows = subst P at.printed.2 w.1; printed = at.printed.3 };
+        log_stays = at.holds.others ask.log (λ has. nothing_in files ask.log w.2 has);
+      })
+]
+
+pub logged : (ask : SolveWords) (status : Status) (before now : Seen) → Solving ask status before now → status ≡ status_of write_fault → (Rose (before.writes ask.log) (now.writes ask.log) → ⊥)
+    → CutsText ALONE ALONE ask (before.told ask.lib) (before.told ask.log) (now.told ask.log) before.printed now.printed
+logged ask status before now run is calm =
+    let w : FailsToWrite (ComesTo before.told (Ok (solve ask))) status before now = as_write _ status before now run.goes.ended is in
+    let found = solve_shows before.told ask w.ending w.files w.text w.due in
+    elim w.cause [
+      | inl at_file ↦
+          let P : List ℕ → Type 0 = λ n. Rose (before.writes n) (now.writes n) in
+          absurd (calm (subst P (log_named ask found.0 w.ending w.files w.text found.2 at_file.name at_file.due) at_file.rose))
+      | inr at_text ↦ cut_at ask before now w.ending w.files w.text found at_text
+    ]
 
 -- which status always comes
 abbrev Completed : ℕ → Status → Result LibraryParts LibFault → Type 0

@@ -1,7 +1,10 @@
 -- What a search of a library says of its architectures and of its cuts.
-use Rattle.std.proofs.Common.{◌≡◌, ℕ, false, ◌+◌, ◌^◌, ◌<◌, ◌≤◌, List, [], ◌∷◌, ◌++◌, filter, length, Option, Some, None, Ok, IfSome, refl, sym, ap, subst, ◌∙◌, arith}
+use Rattle.std.proofs.Common.{◌≡◌, ℕ, Bool, true, false, nat_eq, ◌+◌, ◌^◌, ◌<◌, ◌≤◌, List, [], ◌∷◌, ◌++◌, filter, length, Option, Some, None, Ok, IfSome, refl, sym, ap, subst, ◌∙◌, arith}
+use Rattle.std.specs.Prelude.{if◌then◌else◌}
+use Rattle.std.specs.FinMap.{len}
 use Rattle.std.specs.Option.{IsSomeAnd}
 use Rattle.std.specs.List.{All, AllByRecursion}
+use Rattle.std.proofs.lemmas.Bool.{eqb-true}
 use Rattle.std.proofs.lemmas.List.Elements.{recursion_from_All}
 use Rattle.arch_model.specs.Parts.{LibraryParts, ArchitectureParts}
 use Rattle.arch_model.specs.Member.{member_count}
@@ -11,6 +14,7 @@ use Rattle.lib_read.specs.LibraryOf.{library_of}
 use Rattle.redundancy_cut.specs.declared.cut.Cut.{Cut}
 use Rattle.redundancy_cut.specs.CutRow.{cut_row_of}
 use Rattle.incumbent.specs.declared.best.Best.{Best}
+use Rattle.incumbent.specs.Best.{best_cost}
 use Rattle.search_core.specs.declared.entry.Entry.{Entry}
 use Rattle.search_core.specs.declared.entry.Entry.TheVariants.{Publish}
 use Rattle.search_core.specs.declared.answer.Answer.{Answer}
@@ -18,7 +22,8 @@ use Rattle.search_core.specs.declared.answer.Answer.TheVariants.{Optimal, Infeas
 use Rattle.search_core.specs.State.{SearchState, start_of}
 use Rattle.search_core.specs.Candidate.{candidate_of}
 use Rattle.search_core.specs.Step.{IsStudied, Step, Publishes}
-use Rattle.search_core.specs.History.{Steps, Reaches, is_branch, is_reopen}
+use Rattle.search_core.specs.History.{Steps, Reaches, IsComplete, is_at_rest, is_branch, is_reopen}
+use Rattle.search_core.specs.Answers.{answer_by}
 use Rattle.search_core.specs.Invariant.{SearchInvariant, IsAdmissibleBest, HoldsInAll}
 use Rattle.search_core.specs.Solved.{IsLeastBest, NoneAdmissible, IsAtLimit}
 use Rattle.search_core.proofs.CutRows.{right_cuts}
@@ -76,7 +81,7 @@ module _ (lib : LibraryParts) (limit workers analysts : ℕ) (entries : List Ent
   infeasible_shows bytes read is = record {
     lib = lib;
     read = read;
-    none = none_admissible is;
+    none_meets = none_admissible is;
     branchings = state.branchings;
     cuts = length state.cuts;
     report = refl;
@@ -123,6 +128,17 @@ module _ (lib : LibraryParts) (limit workers analysts : ℕ) (entries : List Ent
         cube = at.cube;
         parked = at.parked;
       }
+
+-- unless the limit came first, the history is complete
+no_node : (at_rest empty : Bool) (n : ℕ) (best : Option Best) (answer : Answer) → nat_eq n 0 ≡ empty
+    → (if at_rest then (if empty then Some (answer_by best) else Some (NodeLimit (best_cost best))) else None) ≡ Some answer → ((incumbent : Option ℕ) → answer ≡ NodeLimit incumbent → ⊥) → n ≡ 0
+no_node true true n best answer e is other = eqb-true n 0 e
+no_node true false n best answer e is other = absurd (let same : answer ≡ NodeLimit (best_cost best) = cc in other (best_cost best) same)
+no_node false empty n best answer e is other = absurd cc
+
+pub complete_unless : (lib : LibraryParts) (limit workers analysts : ℕ) (entries : List Entry) (state : SearchState) (answer : Answer) → IsSearch lib limit workers analysts entries state answer
+    → ((incumbent : Option ℕ) → answer ≡ NodeLimit incumbent → ⊥) → IsComplete state
+complete_unless lib limit workers analysts entries state answer is other = no_node (is_at_rest state) (nat_eq (len state.nodes) 0) (len state.nodes) state.best answer refl is.answers other
 
 -- the last of a list, of all of which something holds
 last_of : {X : Type 0} (P : X → Type 0) (xs : List X) (x : X) → AllByRecursion P (xs ++ x ∷ []) → P x

@@ -24,7 +24,7 @@ pub record ShowsCheapest (bytes text : List ℕ) : Type 0 where
 pub record ShowsInfeasible (bytes text : List ℕ) : Type 0 where
   pub lib : LibraryParts
   pub read : library_of bytes ≡ Ok lib
-  pub none : (arch : ArchitectureParts) → IsAdmissible lib arch → ⊥
+  pub none_meets : (arch : ArchitectureParts) → IsAdmissible lib arch → ⊥
   pub branchings : ℕ
   pub cuts : ℕ
   pub report : text ≡ infeasible_text branchings cuts

@@ -17,13 +17,14 @@ use Rattle.search_core.specs.Node.{Parked}
 use Rattle.search_core.specs.State.{SearchState}
 use Rattle.search_core.specs.Candidate.{candidate_of}
 use Rattle.search_core.specs.Step.{IsStudied}
-use Rattle.search_core.specs.History.{Reaches, is_branch}
+use Rattle.search_core.specs.History.{Reaches, IsComplete, is_branch}
 use Rattle.search_core.specs.Invariant.{IsAdmissibleBest, HoldsInAll}
 use Rattle.search_core.specs.Solved.{IsLeastBest, NoneAdmissible}
 use Rattle.proof_log.specs.Log.{Accepts}
 use Rattle.archex_app.specs.declared.status.Status.{Status}
 use Rattle.archex_app.specs.Status.{status_of, done, infeasible, node_limit}
 use Rattle.archex_app.specs.Words.{SolveWords}
+use Rattle.archex_app.specs.Answer.{ShowsRefusal, PrintsFront}
 use Rattle.archex_app.specs.Report.{ending_of, search_report}
 use Rattle.archex_app.specs.Search.{base_problem, IsSearch, search_log}
 
@@ -65,6 +66,8 @@ pub record ShowsSearch (workers analysts : ℕ) (ask : SolveWords) (status : Sta
   pub none_meets : answer ≡ Infeasible → NoneAdmissible lib
   -- the limit of branchings is the answer only where it was spent
   pub at_limit : (incumbent : Option ℕ) → answer ≡ NodeLimit incumbent → IsLimitSpent lib ask.branchings entries state
+  -- unless the limit came first, the history is complete: nothing is left that might be searched
+  pub complete : ((incumbent : Option ℕ) → answer ≡ NodeLimit incumbent → ⊥) → IsComplete state
   -- whatever the answer, the state's best is admissible
   pub best : IfSome state.best (IsAdmissibleBest lib)
   -- the status is the answer's
@@ -79,8 +82,8 @@ pub record ShowsSearch (workers analysts : ℕ) (ask : SolveWords) (status : Sta
   pub cuts_hold : (first rest : List Entry) (worker node : ℕ) (cut : Cut) → entries ≡ first ++ Publish worker node cut ∷ rest
       → CutHolds lib ask.branchings first worker node cut
 
--- bytes are the front of the log of a search by a team with these words, of the library that the shelf told, or where it told none, of some library
-pub record IsLogFront (workers analysts : ℕ) (ask : SolveWords) (lib_told : Option (List ℕ)) (front : List ℕ) : Type 0 where
+-- a search by a team with these words, of the library that the shelf told, or where it told none, of some library
+pub record SomeSearch (workers analysts : ℕ) (ask : SolveWords) (lib_told : Option (List ℕ)) : Type 0 where
   pub bytes : List ℕ
   pub told : IfSome lib_told (λ all. bytes ≡ all)
   pub lib : LibraryParts
@@ -89,9 +92,32 @@ pub record IsLogFront (workers analysts : ℕ) (ask : SolveWords) (lib_told : Op
   pub state : SearchState
   pub answer : Answer
   pub search : IsSearch lib ask.branchings workers analysts entries state answer
+
+-- bytes are the front of the log of such a search
+pub record IsLogFront (workers analysts : ℕ) (ask : SolveWords) (lib_told : Option (List ℕ)) (front : List ℕ) : Type 0 where
+  pub one : SomeSearch workers analysts ask lib_told
   pub rest : List ℕ
-  pub log : search_log lib ask.branchings entries state answer ≡ front ++ rest
+  pub log : search_log one.lib ask.branchings one.entries one.state one.answer ≡ front ++ rest
 
 -- a run that stopped before its end left under the log's name what stood there, or where its bytes are told, such a front
 abbrev pub LeavesLog : ℕ → ℕ → SolveWords → Option (List ℕ) → Option (List ℕ) → Option (List ℕ) → Type 0
 LeavesLog workers analysts ask lib_told log_before log_now = (log_now ≡ log_before) ⊎ IfSome log_now (IsLogFront workers analysts ask lib_told)
+
+-- the log of one such search stands whole under its name, and a front of that search's report was printed
+pub record IsReportCut (workers analysts : ℕ) (ask : SolveWords) (lib_told log_told before now : Option (List ℕ)) : Type 0 where
+  pub one : SomeSearch workers analysts ask lib_told
+  pub log : IfSome log_told (λ log. log ≡ search_log one.lib ask.branchings one.entries one.state one.answer)
+  pub front : List ℕ
+  pub rest : List ℕ
+  pub report : search_report one.lib one.state one.answer ≡ front ++ rest
+  pub printed : Appends before now front
+
+-- a front of the refusal of bytes that are no library was printed, and the log's name keeps its bytes
+pub record IsRefusalCut (lib_told log_before log_now before now : Option (List ℕ)) : Type 0 where
+  pub refusal : PrintsFront ShowsRefusal lib_told before now
+  pub log_stays : log_now ≡ log_before
+
+-- what is left by a run whose text couldn't be printed whole: the one or the other
+abbrev pub CutsText : ℕ → ℕ → SolveWords → Option (List ℕ) → Option (List ℕ) → Option (List ℕ) → Option (List ℕ) → Option (List ℕ) → Type 0
+CutsText workers analysts ask lib_told log_before log_now before now =
+    IsReportCut workers analysts ask lib_told log_now before now ⊎ IsRefusalCut lib_told log_before log_now before now

@@ -16,7 +16,8 @@ ghost use Rattle.archex_app.specs.Run.{Runs, RoseAmong, seen};
 ghost use Rattle.archex_app.specs.Complete.{Completes};
 ghost use Rattle.archex_app.specs.Answer.{ShowsCheapest, ShowsInfeasible, ShowsNodeLimit, ShowsRefusal};
 ghost use Rattle.archex_app.specs.Answer.{ShowsReport, Prints, PrintsFront};
-ghost use Rattle.archex_app.specs.Searched.{Answered, ShowsSearch, LeavesLog};
+ghost use Rattle.archex_app.specs.Searched.{Answered, ShowsSearch, LeavesLog, CutsText};
+ghost use Rattle.archex_app.specs.ComesTo.{ALONE};
 ghost use Rattle.archex_app.specs.MassAnswer.{ShowsMass, RefusesArchitecture, RefusesSink, PrintsOver, CompletesMass};
 ghost use Rattle.archex_app.specs.Inner.Outcome.{Printed};
 
@@ -104,23 +105,28 @@ pub fn run_plain<F: Shelf, O: Sink>(
         → Prints ShowsRefusal (F.told shelf.old ask.lib) (O.told out.old) (O.told out.new) }
     ensures read_fault { (ask : SolveWords) → AskToSolve (texts words.now) ask → result ≡ status_of read_fault
         → Rose (F.read_faults shelf.old ask.lib) (F.read_faults shelf.new ask.lib) }
-    ensures cut { (ask : SolveWords) → AskToSolve (texts words.now) ask → result ≡ status_of write_fault
+    ensures cut_short { (ask : SolveWords) → AskToSolve (texts words.now) ask → result ≡ status_of write_fault
         → PrintsFront (ShowsReport ask.branchings) (F.told shelf.old ask.lib) (O.told out.old) (O.told out.new) }
 
     // Every answer of `solve` is that of one history of the search, whose log stands under LOG and
     // passes, and each of whose cuts holds in every admissible architecture. A run that stops before
     // its end leaves LOG as it was, or a front of such a log.
     ensures searched { (ask : SolveWords) → AskToSolve (texts words.now) ask → Answered result
-        → ShowsSearch 1 1 ask result (F.told shelf.old ask.lib) (F.told shelf.new ask.log)
+        → ShowsSearch ALONE ALONE ask result (F.told shelf.old ask.lib) (F.told shelf.new ask.log)
         (O.told out.old) (O.told out.new) }
     ensures stopped { (ask : SolveWords) → AskToSolve (texts words.now) ask
         → (result ≡ status_of write_fault) ⊎ (result ≡ status_of no_memory)
-        → LeavesLog 1 1 ask (F.told shelf.old ask.lib) (F.told shelf.old ask.log) (F.told shelf.new ask.log) }
+        → LeavesLog ALONE ALONE ask (F.told shelf.old ask.lib) (F.told shelf.old ask.log) (F.told shelf.new ask.log) }
 
-    // Where the log couldn't be written, nothing is printed. A run that refuses the library, or can't
-    // read it, leaves LOG as it was.
+    // Where the log couldn't be written, nothing is printed; where it could, and the text couldn't be
+    // printed whole, it stands whole. A run that refuses the library, or can't read it, leaves LOG as
+    // it was.
     ensures unlogged { (ask : SolveWords) → AskToSolve (texts words.now) ask → result ≡ status_of write_fault
         → ¬ Rose (O.faults out.old) (O.faults out.new) → O.told out.new ≡ O.told out.old }
+    ensures logged { (ask : SolveWords) → AskToSolve (texts words.now) ask → result ≡ status_of write_fault
+        → ¬ Rose (F.write_faults shelf.old ask.log) (F.write_faults shelf.new ask.log)
+        → CutsText ALONE ALONE ask (F.told shelf.old ask.lib) (F.told shelf.old ask.log) (F.told shelf.new ask.log)
+        (O.told out.old) (O.told out.new) }
     ensures log_stays { (ask : SolveWords) → AskToSolve (texts words.now) ask
         → (result ≡ status_of library_refused) ⊎ (result ≡ status_of read_fault)
         → F.told shelf.new ask.log ≡ F.told shelf.old ask.log }

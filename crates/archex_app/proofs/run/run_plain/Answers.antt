@@ -1,5 +1,5 @@
 use Rattle.archex_app.proofs.AllRuns.{run_of_words, refused_first, refused, may_end, read_among, write_rose, prints_nothing, reads_stay, writes_stay, prints_stay}
-use Rattle.archex_app.proofs.Headline.{optimal, none_meets, limit_met, refused_library, read_rose, cut, searched, leaves_log, unlogged, log_stays, completes, always_refused, enough}
+use Rattle.archex_app.proofs.Headline.{optimal, none_meets, limit_met, refused_library, read_rose, cut_short, searched, leaves_log, unlogged, logged, log_stays, completes, always_refused, enough}
 use Rattle.archex_app.proofs.MassHeadline as mass
 use Rattle.archex_app.proofs.run.run_plain.Goals as goal
 
@@ -18,8 +18,8 @@ returns-clause-refused_library g c ask asked is = refused_library ask _ _ _ (run
 pub returns-clause-read_fault : goal.returns-clause-read_fault
 returns-clause-read_fault g c ask asked is = read_rose ask _ _ _ (run_of_words _ _ _ _ _ asked c.run_command.ensures.run) is
 
-pub returns-clause-cut : goal.returns-clause-cut
-returns-clause-cut g c ask asked is = cut ask _ _ _ (run_of_words _ _ _ _ _ asked c.run_command.ensures.run) is
+pub returns-clause-cut_short : goal.returns-clause-cut_short
+returns-clause-cut_short g c ask asked is = cut_short ask _ _ _ (run_of_words _ _ _ _ _ asked c.run_command.ensures.run) is
 
 pub returns-clause-searched : goal.returns-clause-searched
 returns-clause-searched g c ask asked is = searched ask _ _ _ (run_of_words _ _ _ _ _ asked c.run_command.ensures.run) is
@@ -29,6 +29,9 @@ returns-clause-stopped g c ask asked is = leaves_log ask _ _ _ (run_of_words _ _
 
 pub returns-clause-unlogged : goal.returns-clause-unlogged
 returns-clause-unlogged g c ask asked is calm = unlogged ask _ _ _ (run_of_words _ _ _ _ _ asked c.run_command.ensures.run) is calm
+
+pub returns-clause-logged : goal.returns-clause-logged
+returns-clause-logged g c ask asked is calm = logged ask _ _ _ (run_of_words _ _ _ _ _ asked c.run_command.ensures.run) is calm
 
 pub returns-clause-log_stays : goal.returns-clause-log_stays
 returns-clause-log_stays g c ask asked is = log_stays ask _ _ _ (run_of_words _ _ _ _ _ asked c.run_command.ensures.run) is
