@@ -1,8 +1,8 @@
 -- A text has one first broken line at most, and none where it passes.
-use Rattle.std.proofs.Common.{◌≡◌, ℕ, suc, ◌+◌, ◌≤◌, true, List, [], ◌∷◌, ◌++◌, length, codes, refl, sym, ap, subst, ◌∙◌, append_assoc, arith, inl, inr}
-use Rattle.std.specs.List.{AllByRecursion}
+use Rattle.std.proofs.Common.{◌≡◌, ℕ, suc, ◌+◌, ◌≤◌, true, List, [], ◌∷◌, ◌++◌, length, codes, refl, sym, ap, subst, ◌∙◌, append_assoc, arith, inl, inr, ⊎_elim}
+use Rattle.std.specs.List.{All, AllByRecursion}
 use Rattle.std.proofs.lemmas.List.{length-append}
-use Rattle.std.proofs.lemmas.List.Elements.{recursion_from_All}
+use Rattle.std.proofs.lemmas.List.Elements.{recursion_from_All, All-from_recursion}
 use Rattle.rows.specs.Parts.{ProblemParts}
 use Rattle.search_core.specs.declared.rule.Rule.{Rule}
 use Rattle.search_core.specs.declared.answer.Answer.{Answer}
@@ -12,9 +12,10 @@ use Rattle.proof_log.proofs.WholeLogs.{no_feed, free_of_feeds, cut_at_feed, line
 use Rattle.log_checker.specs.Phase.{Phase, Begun, IsClosedWith}
 use Rattle.log_checker.specs.Feeding.{LineLeads, LinesLead}
 use Rattle.log_checker.specs.Breaking.{LineBreaks}
-use Rattle.log_checker.specs.Text.{LINE_FEED, HasNoFeed, bytes_of, HasLine, WholeBreaks, TailBreaks, BreaksWhole, BreaksTail, RestBreaks, FirstBrokenLine}
+use Rattle.log_checker.specs.Text.{LINE_FEED, HasNoFeed, bytes_of, IsMadeOf, HasLine, WholeBreaks, TailBreaks, BreaksWhole, BreaksTail, RestBreaks, FirstBrokenLine}
 use Rattle.log_checker.proofs.LineLaws.{passes, agree, line_leads_to_one, one_first_rule, line_leads_unbroken}
 use Rattle.log_checker.proofs.PassingTexts.{passing_lines}
+use Rattle.log_checker.proofs.ReadTexts.{begins}
 
 free : (line : List ℕ) → HasNoFeed line → no_feed line ≡ true
 free line none = free_of_feeds line (recursion_from_All (λ b. b ≡ LINE_FEED → ⊥) line none)
@@ -24,6 +25,31 @@ leads_free : (problem : ProblemParts) (old new : Phase) (line : List ℕ) → Li
 leads_free problem old new line x =
     let P : List ℕ → Type 0 = λ l. no_feed l ≡ true in
     subst P (sym x.says.text) (line_feed (log_line x.said) x.says.readable.0.0)
+
+-- bytes without a line feed, by the one way to say it and the other
+feeds_none : (line : List ℕ) → no_feed line ≡ true → HasNoFeed line
+feeds_none line e = ⊎_elim
+    (λ (h : (front : List ℕ) × HasLine line front).
+    let whole : line ++ (10 ∷ []) ≡ h.0 ++ (10 ∷ (h.1.more ++ (10 ∷ []))) =
+    ap (λ (l : List ℕ). l ++ (10 ∷ [])) h.1.parts ∙ append_assoc (ended h.0) h.1.more (10 ∷ []) ∙ append_assoc h.0 (codes "\n") (h.1.more ++ (10 ∷ [])) in
+    let same : line ≡ h.0 = (cut_at_feed line h.0 [] (h.1.more ++ (10 ∷ [])) e (free h.0 h.1.one) whole).0 in
+    absurd (omega (arith, ap length same, ap length h.1.parts, length-append (ended h.0) h.1.more, length-append h.0 (codes "\n"))))
+    (λ (none : HasNoFeed line). none)
+    (begins line)
+
+lines_free : (problem : ProblemParts) (old new : Phase) (fed : List (List ℕ)) → LinesLead problem old fed new → AllByRecursion HasNoFeed fed
+lines_free problem old new [] leads = tt
+lines_free problem old new (line ∷ fed) leads = (feeds_none line (leads_free problem old leads.0 line leads.1), lines_free problem leads.0 new fed leads.2)
+
+-- no line that leads on has a line feed
+pub lines_have_none : (problem : ProblemParts) (old new : Phase) (fed : List (List ℕ)) → LinesLead problem old fed new → All HasNoFeed fed
+lines_have_none problem old new fed leads = All-from_recursion HasNoFeed fed (lines_free problem old new fed leads)
+
+-- a text that passes is made of whole lines
+pub passing_is_whole : (problem : ProblemParts) (text : List ℕ) (answer : Answer) → Accepts problem text answer → (lines : List (List ℕ)) × IsMadeOf text lines
+passing_is_whole problem text answer x =
+    let its = passing_lines problem text answer x in
+    (its.fed, record { feeds = lines_have_none problem Begun its.end its.fed its.leads; parts = its.parts })
 
 -- a text that begins with a line has a line feed
 feed_inside : (line more : List ℕ) → AllByRecursion (λ b. b ≡ LINE_FEED → ⊥) (line ++ (10 ∷ more)) → ⊥

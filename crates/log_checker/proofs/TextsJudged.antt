@@ -49,7 +49,7 @@ module _ (problem : ProblemParts) (its_library : IsLibrary problem.library) (its
   placed_is_judged (Closed state answer) said kept range unclosed place unbroken go = unclosed answer refl
 
   -- a line leads on, or some rule is the first that it breaks
-  line_is_judged : (phase : Phase) (bytes : List ℕ) → IsPhaseOf problem phase → ((r : Rule) → LineBreaks problem phase bytes r → ⊥) → ((new : Phase) → LineLeads problem phase bytes new → IsPhaseOf problem new → ⊥) → ⊥
+  pub line_is_judged : (phase : Phase) (bytes : List ℕ) → IsPhaseOf problem phase → ((r : Rule) → LineBreaks problem phase bytes r → ⊥) → ((new : Phase) → LineLeads problem phase bytes new → IsPhaseOf problem new → ⊥) → ⊥
   line_is_judged phase bytes kept unbroken go =
       let its = says_something bytes (none_unless_first bytes (λ fault x. unbroken (rule_of fault) (inl (record { fault = fault; first = x; named = refl })))) in
       let said_unbroken : (r : Rule) → SaidBreaks problem phase its.0 r → ⊥ = λ r x. unbroken r (inr (record { said = its.0; says = its.1; first = x })) in

@@ -10,7 +10,7 @@ use Rattle.search_core.proofs.WorkedRows.{problem_p}
 use Rattle.proof_log.specs.declared.log_line.LogLine.TheVariants as lines
 use Rattle.log_checker.specs.Phase.{Begun, Versioned}
 use Rattle.log_checker.specs.Feeding.{LineLeads}
-use Rattle.log_checker.specs.Text.{LINE_FEED, HasNoFeed, HasRead, FirstBrokenLine}
+use Rattle.log_checker.specs.Text.{LINE_FEED, HasNoFeed, IsMadeOf, HasRead, FirstBrokenLine}
 use Rattle.log_checker.specs.Yes.{last_limit}
 use Rattle.log_checker.proofs.ReadTexts.{none_read, broken_there}
 use Rattle.log_checker.proofs.WorkedLines.{sizes_break}
@@ -50,6 +50,10 @@ second_line_breaks =
       next = record { one = none_feeds (codes "vars 3 0") (refl, (refl, (refl, (refl, (refl, (refl, (refl, (refl, tt)))))))); more = []; parts = refl };
       first = inr (lit≤ tt, sizes_break);
     }))
+
+-- a text of two lines
+two_lines : IsMadeOf (codes "a\nb\n") (codes "a" ∷ codes "b" ∷ [])
+two_lines = record { feeds = All-from_recursion HasNoFeed (codes "a" ∷ codes "b" ∷ []) (none_feeds (codes "a") (refl, tt), (none_feeds (codes "b") (refl, tt), tt)); parts = refl }
 
 -- the last limit is the one of a Reopen
 reopened_limit : last_limit 1 (Park 0 1 ∷ Reopen 4 ∷ Take 0 1 0 (Some 3) ∷ []) ≡ 4

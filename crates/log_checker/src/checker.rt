@@ -129,6 +129,7 @@ impl Checker {
         ensures no { OnErr result (IsUnclosed self.old.phase) }
         ensures end { IfErr result
             (λ no. no ≡ record { line = next_line self.old.lines; rule = rule.End }) }
+        ensures keeps { IsPhaseOf self.old.problem self.old.phase }
         ensures unchanged { self.new ≡ self.old }
     {
         match self.stage {

@@ -8,7 +8,7 @@ ghost use Rattle.search_core.specs.declared.answer.Answer.{Answer};
 ghost use Rattle.search_core.specs.History.{is_branch};
 ghost use Rattle.search_core.specs.Solved.{NoneAdmissible};
 ghost use Rattle.proof_log.specs.Log.{LOG_BYTES, Accepts};
-ghost use Rattle.log_checker.specs.Phase.{Phase, IsClosedWith};
+ghost use Rattle.log_checker.specs.Phase.{Phase, IsPhaseOf, IsClosedWith};
 ghost use Rattle.log_checker.specs.Phase as phases;
 ghost use Rattle.log_checker.specs.Feeding.{LineLeads, LinesLead};
 ghost use Rattle.log_checker.specs.Breaking.{LineBreaks};
@@ -17,7 +17,8 @@ ghost use Rattle.log_checker.specs.Yes.{IsCostOfOne, IsLeastCost, last_limit};
 
 use search_core::Answer;
 
-/// A line leads to one phase, or breaks one rule first, and never both.
+/// A line leads to one phase, or breaks one rule first, and never both. That it can't be neither
+/// holds of each problem and each phase that the types admit.
 pub fn a_line_leads_on_or_breaks_one_rule_first()
     ensures one_phase { (problem : ProblemParts) (old a b : Phase) (line : List ℕ)
         → LineLeads problem old line a → LineLeads problem old line b → a ≡ b }
@@ -26,9 +27,14 @@ pub fn a_line_leads_on_or_breaks_one_rule_first()
     ensures never_both { (problem : ProblemParts) (old new : Phase) (line : List ℕ)
         (broken : Rule)
         → LineLeads problem old line new → LineBreaks problem old line broken → ⊥ }
+    ensures one_of_both { (problem : ProblemParts) (old : Phase) (line : List ℕ)
+        → IsLibrary problem.library → IsProblem problem → IsPhaseOf problem old
+        → ((new : Phase) → LineLeads problem old line new → ⊥)
+        → ((broken : Rule) → LineBreaks problem old line broken → ⊥) → ⊥ }
 {}
 
-/// The lines of a text lead to a closing answer exactly where the text passes with that answer.
+/// A text passes with an answer exactly where it is made of lines that lead to a closing line with
+/// that answer, and has at most 2^32 bytes.
 pub fn a_text_passes_where_its_lines_lead_to_an_answer()
     ensures passes { (problem : ProblemParts) (text : List ℕ) (lines : List (List ℕ))
         (phase : Phase) (answer : Answer)
@@ -39,6 +45,10 @@ pub fn a_text_passes_where_its_lines_lead_to_an_answer()
         (answer : Answer) → IsMadeOf text lines → Accepts problem text answer
         → (phase : Phase) × LinesLead problem phases.Begun lines phase
         × IsClosedWith answer phase }
+    ensures whole { (problem : ProblemParts) (text : List ℕ) (answer : Answer)
+        → Accepts problem text answer → (lines : List (List ℕ)) × IsMadeOf text lines }
+    ensures few { (problem : ProblemParts) (text : List ℕ) (answer : Answer)
+        → Accepts problem text answer → length text ≤ LOG_BYTES }
 {}
 
 /// A text passes with an answer, or has a first broken line, and never both: there is one such line
