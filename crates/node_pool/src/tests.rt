@@ -404,11 +404,18 @@ fn node_in_hand(pool: &Pool, worker: u32) -> Option<u32> {
     }
 }
 
-// A pool of two workers, of which the first is an analyst, after worker 1 branched.
+// A pool of two workers, of which the first is an analyst.
+fn two_workers(alloc: Global, problem: &Problem) -> Result<Pool, Memory>
+    ensures { IfOk result (λ pool. pool.workers ≡ 2) }
+{
+    Pool::new(alloc, problem, 8, 2, 1)
+}
+
+// The same after worker 1 branched.
 fn branched_pool(rt: &(impl Abort + AllocGlobal), problem: &Problem) -> Result<Pool, Fail>
     ensures { IfOk result (λ pool. pool.workers ≡ 2) }
 {
-    let mut pool = Pool::new(rt.alloc(), problem, 8, 2, 1)?;
+    let mut pool = two_workers(rt.alloc(), problem)?;
     work(rt, &mut pool, 1)?;
     Ok(pool)
 }
@@ -431,21 +438,48 @@ fn studied_pool(rt: &(impl Abort + AllocGlobal), problem: &Problem) -> Result<Po
     Ok(pool)
 }
 
+// A pool for one of two components, of which worker 0 holds both sides.
+fn both_held(rt: &(impl Abort + AllocGlobal)) -> Result<Pool, Fail> {
+    let mut pool = branched_pool(rt, &pair(rt)?)?;
+    take_node(rt, &mut pool, 0)?;
+    take_node(rt, &mut pool, 0)?;
+    Ok(pool)
+}
+
+// Worker 0 searches the node that it has in hand.
+fn search_in_hand(rt: &(impl Abort + AllocGlobal), pool: &mut Pool) -> Result<(), Fail> {
+    match pool.held(0) {
+        Some(Work::Node(ticket)) => search(rt, pool, ticket),
+        _ => panic!(rt; "a node is in hand"),
+    }
+}
+
+// Who took nothing has nothing.
+#[test]
+fn an_idle_worker_has_nothing_in_hand(rt: HostRuntime) -> Result<(), Fail> {
+    let pool = branched_pool(&rt, &pair(&rt)?)?;
+    assert!(rt; node_in_hand(&pool, 0).is_none());
+    Ok(())
+}
+
 // The last node that a worker holds or studies is in hand, whatever else it holds.
 #[test]
 fn the_last_node_is_in_hand(rt: HostRuntime) -> Result<(), Fail> {
-    let mut pool = branched_pool(&rt, &pair(&rt)?)?;
-    assert!(rt; node_in_hand(&pool, 0).is_none());
-    let second = take_node(&rt, &mut pool, 0)?;
-    take_node(&rt, &mut pool, 0)?;
+    let pool = both_held(&rt)?;
     assert_eq!(rt; node_in_hand(&pool, 0), Some(2));
-    assert!(rt; pool.fits(&second, &CutList::new(rt.alloc())));
-    search(&rt, &mut pool, second)?;
+    Ok(())
+}
+
+// The one before it is in hand next.
+#[test]
+fn the_node_before_is_in_hand_next(rt: HostRuntime) -> Result<(), Fail> {
+    let mut pool = both_held(&rt)?;
+    search_in_hand(&rt, &mut pool)?;
     assert_eq!(rt; node_in_hand(&pool, 0), Some(1));
     Ok(())
 }
 
-// So is a candidate that it studies beside a node of a lower number, and not another worker's.
+// So is a candidate that a worker studies beside a node of a lower number, and not another worker's.
 #[test]
 fn a_candidate_is_in_hand(rt: HostRuntime) -> Result<(), Fail> {
     let mut pool = offered_pool(&rt, &pair(&rt)?)?;
@@ -483,15 +517,28 @@ fn a_ticket_fits_with_its_cuts(rt: HostRuntime) -> Result<(), Fail> {
     Ok(())
 }
 
-// Nothing is there for a worker while another one holds the root, and the flag stays where it is
-// set.
+// A pool for one of two components, of which worker 1 holds the root.
+fn root_held(rt: &(impl Abort + AllocGlobal)) -> Result<Pool, Fail>
+    ensures { IfOk result (λ pool. pool.workers ≡ 2) }
+{
+    let mut pool = two_workers(rt.alloc(), &pair(rt)?)?;
+    take_node(rt, &mut pool, 1)?;
+    Ok(pool)
+}
+
+// Nothing is there for a worker while another one holds the root.
 #[test]
 fn a_worker_waits_for_another(rt: HostRuntime) -> Result<(), Fail> {
-    let problem = pair(&rt)?;
-    let mut pool = Pool::new(rt.alloc(), &problem, 8, 2, 1)?;
-    take_node(&rt, &mut pool, 1)?;
+    let mut pool = root_held(&rt)?;
     pool.reserve()?;
     assert!(rt; matches!(pool.take(0), Work::Nothing));
+    Ok(())
+}
+
+// The flag of want of memory is down until it is set.
+#[test]
+fn the_flag_stays_where_it_is_set(rt: HostRuntime) -> Result<(), Fail> {
+    let mut pool = root_held(&rt)?;
     assert!(rt; !pool.short());
     pool.set_short();
     assert!(rt; pool.short());
