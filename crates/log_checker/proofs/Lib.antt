@@ -10,3 +10,4 @@ pub mod EntriesJudged
 pub mod TextsJudged
 pub mod WorkedLines
 pub mod WorkedTexts
+pub mod WorkedAnswers
