@@ -11,3 +11,7 @@ pub mod TextsJudged
 pub mod WorkedLines
 pub mod WorkedTexts
 pub mod WorkedAnswers
+pub mod NextLines
+pub mod TextPieces
+pub mod ReaderSteps
+pub mod WorkedReading

@@ -15,7 +15,7 @@ use Rattle.log_checker.specs.Yes.{last_limit}
 use Rattle.log_checker.proofs.ReadTexts.{none_read, broken_there}
 use Rattle.log_checker.proofs.WorkedLines.{sizes_break}
 
-none_feeds : (bytes : List ℕ) → AllByRecursion (λ b. nat_eq b LINE_FEED ≡ false) bytes → HasNoFeed bytes
+pub none_feeds : (bytes : List ℕ) → AllByRecursion (λ b. nat_eq b LINE_FEED ≡ false) bytes → HasNoFeed bytes
 none_feeds bytes others = All-from_recursion (λ b. b ≡ LINE_FEED → ⊥) bytes (each bytes others)
   where
     each : (bs : List ℕ) → AllByRecursion (λ b. nat_eq b LINE_FEED ≡ false) bs → AllByRecursion (λ b. b ≡ LINE_FEED → ⊥) bs
@@ -31,7 +31,7 @@ one_byte_ends : (problem : ProblemParts) → FirstBrokenLine problem (codes "a")
 one_byte_ends problem = broken_there problem (codes "a") [] Begun (codes "a") rule.End (none_read problem (codes "a")) (inr (record { none = none_feeds (codes "a") (refl, tt); first = inr (lit≤ tt, inr (lit≤ tt, refl)) }))
 
 -- the first line leads on
-version_leads : LineLeads problem_p Begun (codes "archex-log 1") Versioned
+pub version_leads : LineLeads problem_p Begun (codes "archex-log 1") Versioned
 version_leads = record {
   said = lines.Version;
   says = record { readable = ((((tt, tt), ((tt, tt), tt)), tt), lit≤ tt); text = refl };

@@ -1,3 +1,4 @@
 -- What only the code's own contracts cite: no statement that a reader has to believe rests on it.
 pub mod Codes
 pub mod Refused
+pub mod Reading

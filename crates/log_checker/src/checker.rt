@@ -81,7 +81,7 @@ impl Checker {
     }
 
     // The number of the line that comes next.
-    fn next_line(&self) -> u64
+    pub(crate) fn next_line(&self) -> u64
         ensures number { result ≡ next_line self.now.lines }
         ensures keeps { IsPhaseOf self.now.problem self.now.phase }
     {

@@ -1,6 +1,7 @@
 // Logs of small libraries, and changes to them that break a rule.
 mod logs;
 mod problems;
+mod texts;
 
 use crate::tests::logs::{Change, PASSING_P, PASSING_U, expect, judged, said_after};
 use crate::tests::problems::{one_of, one_way};
