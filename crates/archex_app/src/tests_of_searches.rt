@@ -131,12 +131,21 @@ fn has_none(report: &[u8]) -> bool {
     without_counts(report) == b"status nodelimit\nincumbent none\n".as_slice()
 }
 
+// The last two lines of a report, its numbers of branchings and of cuts.
+fn counts_of(report: &[u8]) -> &[u8] {
+    for start in 0..report.len() {
+        if report[start..].starts_with(b"branchings ") {
+            return &report[start..];
+        }
+    }
+    b""
+}
+
 // Whether a report says that so many branchings were made.
 fn counts(alloc: Global, report: &[u8], branchings: u32) -> Result<bool, AllocError> {
     let mut line = String::new(alloc);
     write!(line, "branchings {branchings}\n")?;
-    let counts = &report[without_counts(report).len()..];
-    Ok(counts.starts_with(line.as_bytes()))
+    Ok(counts_of(report).starts_with(line.as_bytes()))
 }
 
 // Where the limit of branchings is spent before the search is over, the report has the best until
