@@ -12,8 +12,11 @@
 //! nothing: their contracts speak of counts alone. [`SureShelf`] and [`SureSink`] never fail, since
 //! their counts are always 0. A name is looked up in a list, so shelves are for a few files. No
 //! method of the two traits takes memory.
+//!
+//! A [`Bell`] is told that a worker of a team took work, and [`NoBell`] does nothing then.
 #![tactic(auto)]
 
+mod bell;
 mod copies;
 mod counts;
 mod disk_shelf;
@@ -30,6 +33,7 @@ mod stdout_sink;
 mod sure_shelf;
 mod sure_sink;
 
+pub use bell::{Bell, NoBell};
 pub use disk_shelf::DiskShelf;
 pub use faults::{Failed, Memory};
 pub use mem_shelf::MemShelf;
