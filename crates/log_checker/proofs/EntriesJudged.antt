@@ -1,22 +1,18 @@
 -- An entry of a line is a step, or breaks a rule first.
-use Rattle.std.proofs.Common.{◌≡◌, ℕ, ◌<◌, ◌≤◌, List, Option, Some, Result, Ok, Err, refl, inl, inr}
-use Rattle.std.specs.FinMap.{get}
+use Rattle.std.proofs.Common.{◌≡◌, ℕ, ◌<◌, ◌≤◌, List, Result, Ok, Err, refl, inl, inr}
 use Rattle.std.specs.List.{All}
 use Rattle.arch_model.specs.Library.{IsLibrary}
 use Rattle.arch_model.specs.Admissible.{IsAdmissible}
 use Rattle.arch_model.specs.Weight.{weight_of}
 use Rattle.rows.specs.declared.known.RowRef.{RowRef}
-use Rattle.rows.specs.declared.known.Pair.{Pair}
 use Rattle.rows.specs.Parts.{CubeParts, ProblemParts}
-use Rattle.rows.specs.Reason.{IsReason}
 use Rattle.rows.specs.Problem.{IsProblem, IsCandidate}
-use Rattle.redundancy_cut.specs.declared.cut.Cut.{Cut}
 use Rattle.redundancy_cut.specs.CutRow.{cut_row_of}
 use Rattle.search_core.specs.declared.limits.TheConstants.{WORKERS}
 use Rattle.search_core.specs.declared.rule.Rule.{Rule}
 use Rattle.search_core.specs.declared.entry.Entry.{Entry}
 use Rattle.search_core.specs.declared.entry.Entry.TheVariants.{Take, Branch, Prune, Offer, Study, Publish, Accept, Park, Reopen}
-use Rattle.search_core.specs.Node.{Node, Held, Pending, Studied, Parked, IsCandidateCube}
+use Rattle.search_core.specs.Node.{Held, Pending, Studied, Parked}
 use Rattle.search_core.specs.State.{SearchState, known_at}
 use Rattle.search_core.specs.History.{IsReached}
 use Rattle.search_core.specs.Candidate.{candidate_of}

@@ -6,13 +6,12 @@ use Rattle.std.proofs.lemmas.List.Elements.{recursion_from_All, All-from_recursi
 use Rattle.rows.specs.Parts.{ProblemParts}
 use Rattle.search_core.specs.declared.rule.Rule.{Rule}
 use Rattle.search_core.specs.declared.answer.Answer.{Answer}
-use Rattle.proof_log.specs.Value.{log_line, text_of, ended}
+use Rattle.proof_log.specs.Value.{log_line, ended}
 use Rattle.proof_log.specs.Log.{LOG_BYTES, Accepts}
 use Rattle.proof_log.proofs.WholeLogs.{no_feed, free_of_feeds, cut_at_feed, line_feed, nothing_is_ended}
 use Rattle.log_checker.specs.Phase.{Phase, Begun, IsClosedWith}
 use Rattle.log_checker.specs.Feeding.{LineLeads, LinesLead}
-use Rattle.log_checker.specs.Breaking.{LineBreaks}
-use Rattle.log_checker.specs.Text.{LINE_FEED, HasNoFeed, bytes_of, IsMadeOf, HasLine, WholeBreaks, TailBreaks, BreaksWhole, BreaksTail, RestBreaks, FirstBrokenLine}
+use Rattle.log_checker.specs.Text.{LINE_FEED, HasNoFeed, bytes_of, IsMadeOf, HasLine, WholeBreaks, RestBreaks, FirstBrokenLine}
 use Rattle.log_checker.proofs.LineLaws.{passes, agree, line_leads_to_one, one_first_rule, line_leads_unbroken}
 use Rattle.log_checker.proofs.PassingTexts.{passing_lines}
 use Rattle.log_checker.proofs.ReadTexts.{begins}

@@ -1,10 +1,9 @@
 -- A line leads on or breaks a rule: which, and to what, its bytes determine.
-use Rattle.std.proofs.Common.{◌≡◌, ℕ, List, length, refl, sym, ap, subst, ◌∙◌, inl, inr}
+use Rattle.std.proofs.Common.{◌≡◌, ℕ, List, refl, sym, ap, subst, ◌∙◌, inl, inr}
 use Rattle.rows.specs.Parts.{ProblemParts}
 use Rattle.search_core.specs.declared.rule.Rule.{Rule}
 use Rattle.search_core.specs.declared.entry.Entry.{Entry}
-use Rattle.search_core.specs.declared.answer.Answer.{Answer}
-use Rattle.search_core.specs.State.{SearchState, start_of}
+use Rattle.search_core.specs.State.{SearchState}
 use Rattle.search_core.specs.Step.{Step}
 use Rattle.search_core.specs.Rules.{Breaks}
 use Rattle.search_core.proofs.Determined.{step_is_determined}
@@ -16,9 +15,9 @@ use Rattle.proof_log.specs.Value.{log_line}
 use Rattle.proof_log.specs.Fault.{BreaksNone}
 use Rattle.proof_log.proofs.Spelling.{same_value, lists_ascend}
 use Rattle.proof_log.proofs.FirstFaults.{one_first, none_or_first}
-use Rattle.log_checker.specs.Phase.{Phase, Begun, Versioned, Sized, Running, Closed, IsUnclosed}
-use Rattle.log_checker.specs.Feeding.{SaysLine, Versions, Sizes, Limits, Enters, Closes, Leads, LineLeads, IsAnswer}
-use Rattle.log_checker.specs.Breaking.{rule_of, IsInPlace, PlacedBreaks, StateBreaks, SaidBreaks, FailsAlone, FailsThere, LineBreaks}
+use Rattle.log_checker.specs.Phase.{Phase, Begun, Versioned, Sized, Running, Closed}
+use Rattle.log_checker.specs.Feeding.{SaysLine, Versions, Sizes, Limits, Enters, Closes, Leads, LineLeads}
+use Rattle.log_checker.specs.Breaking.{rule_of, PlacedBreaks, StateBreaks, SaidBreaks, LineBreaks}
 
 -- the bytes of a line say one thing
 pub same_said : (bytes : List ℕ) (x y : LogLine) → SaysLine bytes x → SaysLine bytes y → x ≡ y

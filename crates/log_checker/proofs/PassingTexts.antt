@@ -1,6 +1,6 @@
 -- The lines of a text lead to a closing answer exactly where the text passes with it.
-use Rattle.std.proofs.Common.{◌≡◌, ℕ, ◌≤◌, Bool, false, nat_eq, List, [], ◌∷◌, ◌++◌, length, map, codes, Some, refl, sym, ap, subst, ◌∙◌, append_assoc}
-use Rattle.std.specs.List.{flat_map, All, AllByRecursion}
+use Rattle.std.proofs.Common.{◌≡◌, ℕ, ◌≤◌, false, nat_eq, List, [], ◌∷◌, ◌++◌, length, map, Some, refl, sym, ap, subst, ◌∙◌}
+use Rattle.std.specs.List.{AllByRecursion}
 use Rattle.std.proofs.lemmas.Bool.{eqb-false}
 use Rattle.rows.specs.Parts.{ProblemParts}
 use Rattle.search_core.specs.declared.limits.TheConstants.{BRANCHINGS}
@@ -13,9 +13,9 @@ use Rattle.search_core.specs.Answers.{answer_of}
 use Rattle.proof_log.specs.declared.log_line.LogLine.{LogLine}
 use Rattle.proof_log.specs.declared.log_line.LogLine.TheVariants as lines
 use Rattle.proof_log.specs.Value.{log_line, text_of, ended}
-use Rattle.proof_log.specs.Log.{IsReadable, lines_text, log_lines, log_text_of, LOG_BYTES, Accepts}
+use Rattle.proof_log.specs.Log.{IsReadable, lines_text, log_lines, LOG_BYTES, Accepts}
 use Rattle.log_checker.specs.Phase.{Phase, Begun, Versioned, Sized, Running, Closed, IsClosedWith}
-use Rattle.log_checker.specs.Feeding.{SaysLine, Versions, Sizes, Limits, Enters, Closes, Leads, LineLeads, LinesLead, IsAnswer}
+use Rattle.log_checker.specs.Feeding.{SaysLine, Versions, Sizes, Limits, Enters, Closes, Leads, LinesLead, IsAnswer}
 use Rattle.log_checker.specs.Text.{IsMadeOf, bytes_of}
 use Rattle.log_checker.proofs.LineLaws.{same_running}
 

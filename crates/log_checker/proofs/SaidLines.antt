@@ -1,6 +1,6 @@
 -- A line that breaks no rule on its own says something.
-use Rattle.std.proofs.Common.{◌≡◌, ℕ, ◌+◌, ◌^◌, ◌≤◌, ◌<◌, List, [], ◌∷◌, length, map, get_or, refl, sym, ap, subst, ◌∙◌, arith}
-use Rattle.std.specs.List.{All, AllByRecursion}
+use Rattle.std.proofs.Common.{◌≡◌, ℕ, ◌+◌, ◌^◌, ◌≤◌, ◌<◌, List, [], ◌∷◌, length, map, refl, sym, ap, subst, ◌∙◌, arith}
+use Rattle.std.specs.List.{AllByRecursion}
 use Rattle.std.specs.List.Sorted.{IsStrictlyIncreasing}
 use Rattle.std.proofs.lemmas.List.{length-map}
 use Rattle.std.proofs.lemmas.List.Elements.{All-from_recursion}
@@ -17,11 +17,11 @@ use Rattle.proof_log.specs.declared.log_line.TheConstants.{LINE_BYTES}
 use Rattle.proof_log.specs.declared.log_line.LogLine.{LogLine}
 use Rattle.proof_log.specs.declared.log_line.LogLine.TheVariants as lines
 use Rattle.proof_log.specs.Field.{RowName, base_row, cut_row, cost_row, RowNumber}
-use Rattle.proof_log.specs.Line.{Line, version, vars, limits, takes, branches, prunes, offers, studies, redundancy, no_good, accepts, parks, reopens, optimal, infeasible, node_limit, line_fields}
+use Rattle.proof_log.specs.Line.{Line, version, vars, limits, takes, branches, prunes, offers, studies, redundancy, no_good, accepts, parks, reopens, optimal, infeasible, node_limit}
 use Rattle.proof_log.specs.Fault.{IsInRange, ListsAscend, BreaksNone}
 use Rattle.proof_log.specs.Value.{row_name, named_pair, log_line, text_of, IsSmall, HasSmallSets}
 use Rattle.proof_log.specs.Inner.Reading.{set_of}
-use Rattle.proof_log.proofs.Ascending.{AscendFrom, from_increasing, members_read}
+use Rattle.proof_log.proofs.Ascending.{from_increasing, members_read}
 use Rattle.proof_log.proofs.SmallSets.{empty_small, put_small}
 use Rattle.log_checker.specs.Feeding.{SaysLine}
 

@@ -1,5 +1,5 @@
 -- A text passes or has a first broken line: it can't be that it does neither.
-use Rattle.std.proofs.Common.{◌≡◌, ◌⊎◌, ℕ, zero, suc, ◌+◌, ◌≤◌, List, [], ◌∷◌, ◌++◌, length, codes, refl, sym, ap, subst, arith, inl, inr, ⊎_elim}
+use Rattle.std.proofs.Common.{◌⊎◌, ℕ, zero, suc, ◌+◌, ◌≤◌, List, [], ◌∷◌, ◌++◌, length, codes, refl, sym, ap, subst, arith, inl, inr, ⊎_elim}
 use Rattle.std.proofs.lemmas.List.{length-append}
 use Rattle.arch_model.specs.Library.{IsLibrary}
 use Rattle.rows.specs.Parts.{ProblemParts}
@@ -7,8 +7,7 @@ use Rattle.rows.specs.Problem.{IsProblem}
 use Rattle.search_core.specs.declared.rule.Rule.{Rule}
 use Rattle.search_core.specs.declared.rule.Rule.TheVariants as rule
 use Rattle.search_core.specs.declared.answer.Answer.{Answer}
-use Rattle.search_core.specs.State.{SearchState, start_of}
-use Rattle.search_core.specs.History.{IsReached}
+use Rattle.search_core.specs.State.{start_of}
 use Rattle.search_core.proofs.Entering.{reached_next}
 use Rattle.proof_log.specs.declared.log_line.LogLine.{LogLine}
 use Rattle.proof_log.specs.declared.log_line.LogLine.TheVariants as lines

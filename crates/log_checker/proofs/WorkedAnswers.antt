@@ -6,7 +6,6 @@ use Rattle.arch_model.specs.declared.library.Pattern.{Pattern}
 use Rattle.arch_model.specs.declared.library.Requirement.{Requirement}
 use Rattle.arch_model.specs.Set.{has, empty}
 use Rattle.arch_model.specs.Parts.{LibraryParts, ArchitectureParts}
-use Rattle.arch_model.specs.Architecture.{IsArchitecture, cost_of}
 use Rattle.arch_model.specs.Pattern.{MeetsPattern}
 use Rattle.arch_model.specs.Weight.{weight_of}
 use Rattle.arch_model.specs.Admissible.{IsAdmissible}

@@ -1,16 +1,14 @@
 -- Worked rows: lines of the log of the search for the best of two components that lead on, and two that are refused.
-use Rattle.std.proofs.Common.{◌≡◌, ℕ, ◌^◌, ◌≤◌, ◌<◌, lit≤, lit<, List, [], ◌∷◌, length, codes, Some, refl, sym, ◌∙◌, arith, inl, inr}
+use Rattle.std.proofs.Common.{◌≡◌, ℕ, ◌^◌, ◌≤◌, ◌<◌, lit≤, lit<, codes, refl, sym, ◌∙◌, arith, inl, inr}
 use Rattle.std.specs.Fmt.{digits}
 use Rattle.search_core.specs.declared.rule.Rule.TheVariants as rule
 use Rattle.search_core.specs.declared.answer.Answer.TheVariants.{Optimal}
-use Rattle.search_core.specs.Answers.{answer_of}
 use Rattle.search_core.proofs.Options.{same_some}
 use Rattle.search_core.proofs.WorkedRows.{at, at_end, best_p, problem_p, answer_p}
 use Rattle.proof_log.specs.declared.log_line.LogLine.TheVariants as lines
-use Rattle.proof_log.specs.Log.{IsReadable}
 use Rattle.proof_log.proofs.Numbers.{IsFrom}
-use Rattle.log_checker.specs.Phase.{Phase, Begun, Versioned, Sized, Running, Closed, IsUnclosed}
-use Rattle.log_checker.specs.Feeding.{SaysLine, IsAnswer, LineLeads}
+use Rattle.log_checker.specs.Phase.{Versioned, Sized, Running, Closed}
+use Rattle.log_checker.specs.Feeding.{IsAnswer, LineLeads}
 use Rattle.log_checker.specs.Breaking.{LineBreaks}
 
 digit : (n : ℕ) → n ≤ 9 → IsFrom 0 (2 ^ 32) n × Unit {0}

@@ -1,5 +1,5 @@
 -- Worked rows: the first broken line of short texts, and the last limit that a log states.
-use Rattle.std.proofs.Common.{◌≡◌, ℕ, ◌≤◌, nat_eq, false, lit≤, List, [], ◌∷◌, length, codes, Some, None, refl, inl, inr}
+use Rattle.std.proofs.Common.{◌≡◌, ℕ, ◌≤◌, nat_eq, false, lit≤, List, [], ◌∷◌, codes, Some, refl, inl, inr}
 use Rattle.std.specs.List.{AllByRecursion}
 use Rattle.std.proofs.lemmas.Bool.{eqb-false}
 use Rattle.std.proofs.lemmas.List.Elements.{All-from_recursion}

@@ -1,5 +1,5 @@
 -- What a yes of the checker says of a library, whoever wrote the log.
-use Rattle.std.specs.Prelude.{◌≡◌, ℕ, ◌≤◌, List, [], ◌∷◌, length, filter, Option, IfSome}
+use Rattle.std.specs.Prelude.{◌≡◌, ℕ, ◌≤◌, List, [], ◌∷◌}
 use Rattle.arch_model.specs.Parts.{LibraryParts, ArchitectureParts}
 use Rattle.arch_model.specs.Architecture.{cost_of}
 use Rattle.arch_model.specs.Admissible.{IsAdmissible}

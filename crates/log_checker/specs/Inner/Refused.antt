@@ -1,5 +1,5 @@
 -- For the code's own contracts: why what a line says was refused, and what it leaves alone.
-use Rattle.std.specs.Prelude.{◌≡◌, ℕ, List}
+use Rattle.std.specs.Prelude.{◌≡◌}
 use Rattle.rows.specs.Parts.{ProblemParts}
 use Rattle.search_core.specs.declared.rule.Rule.{Rule}
 use Rattle.search_core.specs.declared.rule.Rule.TheVariants as rule
