@@ -1,0 +1,10 @@
+pub mod Report
+pub mod Weighing
+pub mod Template
+pub mod Rows
+pub mod Sets
+pub mod Verdict
+pub mod Mass
+pub mod Summary
+pub mod Refusal
+pub mod Inner
