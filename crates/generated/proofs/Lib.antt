@@ -1,0 +1,12 @@
+pub mod LineTexts
+pub mod GroupLines
+pub mod Documents
+pub mod Texts
+pub mod Rows
+pub mod Names
+pub mod Quiet
+pub mod Repeats
+pub mod Components
+pub mod Judged
+pub mod Whole
+pub mod WorkedRows
