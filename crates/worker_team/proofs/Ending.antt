@@ -19,10 +19,11 @@ use Rattle.search_core.proofs.AnswerLaws.{limit_is_enough, no_answer}
 use Rattle.search_core.specs.Step.{NamesWorkerBelow}
 use Rattle.node_pool.specs.Parts.{PoolParts}
 use Rattle.node_pool.specs.Pool.{IsNewPool, SamePool}
+use Rattle.node_pool.specs.Topic.{TopicParts, topic_of}
 use Rattle.node_pool.proofs.Outcomes.{state_is_kept}
 use Rattle.worker_team.specs.declared.solved.Solved.{Solved}
 use Rattle.worker_team.specs.Solved.{IsSolved}
-use Rattle.worker_team.specs.Inner.Rounds.{IsLeftOf}
+use Rattle.worker_team.specs.Inner.Rounds.{IsLeftOf, IsEndOf}
 
 some_unless : (o : Option Answer) → (o ≡ None → ⊥) → is_some o ≡ true
 some_unless (Some answer) other = refl
@@ -79,3 +80,31 @@ module _ (problem : ProblemParts) (limit workers analysts : ℕ) (new after : Po
       incumbent (left.answer ∙ ap Some e) where
         at_least : (a b l m n : ℕ) → a ≡ b → b ≤ l → m ≡ l → n ≡ m → a ≤ n
         at_least a b l m n e f g h = omega (arith, e, f, g, h)
+
+-- a pool that is about the same as another has its problem, its base and its team
+same_by_topic : (old new : PoolParts) → topic_of new ≡ topic_of old → SamePool old new
+same_by_topic old new same = record {
+  problem = ap (λ (t : TopicParts). t.problem) same;
+  base = ap (λ (t : TopicParts). t.base) same;
+  workers = ap (λ (t : TopicParts). t.workers) same;
+  analysts = ap (λ (t : TopicParts). t.analysts) same;
+}
+
+same_twice : (old mid new : PoolParts) → SamePool old mid → SamePool mid new → SamePool old new
+same_twice old mid new first next = record {
+  problem = next.problem ∙ first.problem;
+  base = next.base ∙ first.base;
+  workers = next.workers ∙ first.workers;
+  analysts = next.analysts ∙ first.analysts;
+}
+
+-- a team's pool, which the gate handed out at its end: it is about the same as the new one
+module _ (problem : ProblemParts) (limit workers analysts : ℕ) (new pool : PoolParts) (begins : IsNewPool problem (start_of limit) workers analysts new)
+    (same : topic_of pool ≡ topic_of new) where
+  pub team_solved : limit ≤ BRANCHINGS → (solved : Solved) → IsEndOf pool solved → IsSolved problem limit workers analysts solved
+  team_solved few solved end = solved_by problem limit workers analysts new end.after solved begins (same_twice new pool end.after (same_by_topic new pool same) end.same) end.left few end.rest
+
+  pub team_never_limited : IsLibrary problem.library → IsProblem problem → 2 ^ member_count problem.library ≤ limit → (solved : Solved) → IsEndOf pool solved → (incumbent : Option ℕ)
+      → solved.answer ≡ NodeLimit incumbent → ⊥
+  team_never_limited right is far solved end =
+      never_limited problem limit workers analysts new end.after solved begins (same_twice new pool end.after (same_by_topic new pool same) end.same) end.left right is far

@@ -28,7 +28,7 @@ use Rattle.branch_worker.specs.declared.outcome.Outcome.{Outcome}
 use Rattle.branch_worker.specs.Outcome.{IsOutcome}
 use Rattle.node_pool.proofs.Counting.{one_more}
 use Rattle.node_pool.proofs.Outcomes.{state_is_kept}
-use Rattle.worker_team.specs.Inner.Rounds.{GoesOn, IsRound, IsInHand, AllIdle, IsVerdict, IsWithinLimit}
+use Rattle.worker_team.specs.Inner.Rounds.{GoesOn, AddsOne, IsRound, IsInHand, AllIdle, IsVerdict, IsWithinLimit}
 use Rattle.worker_team.proofs.Resting.{nothing_is_left}
 
 no_more : (n : ℕ) → n + 0 ≤ n
@@ -46,11 +46,19 @@ one : (old new : ℕ) → new ≡ old + 1 → old + 1 ≤ new
 one old new e = omega arith
 
 -- a pool with one entry more
-pub by_entry : (old new : PoolParts) (entry : Entry) → Appends old entry new → GoesOn 1 old new
+pub by_entry : (old new : PoolParts) (entry : Entry) → Appends old entry new → AddsOne old new
 by_entry old new entry appends = record {
   same = record { problem = appends.same.problem; base = appends.same.base; workers = appends.same.workers; analysts = appends.same.analysts };
   short = appends.short;
-  more = one (length old.history) (length new.history) (one_more old new entry appends);
+  one = one_more old new entry appends;
+}
+
+-- a pool with one entry more went on
+pub one_on : (old new : PoolParts) → AddsOne old new → GoesOn 1 old new
+one_on old new adds = record {
+  same = record { problem = adds.same.problem; base = adds.same.base; workers = adds.same.workers; analysts = adds.same.analysts };
+  short = adds.short;
+  more = one (length old.history) (length new.history) adds.one;
 }
 
 -- a pool that got room first
@@ -87,8 +95,8 @@ module _ (old new : PoolParts) (ticket : SearchTicket) (told : AtLimit) (at : Is
   pub limit_still : new.state.branchings ≡ new.state.limit
   limit_still = let P : PoolParts → Type 0 = λ p. p.state.branchings ≡ p.state.limit in subst P (sym same) at.equal
 
-  pub then_parked : (after : PoolParts) (entry : Entry) → Appends new entry after → GoesOn 1 old after
-  then_parked after entry appends = let P : PoolParts → Type 0 = λ p. GoesOn 1 p after in subst P same (by_entry new after entry appends)
+  pub then_parked : (after : PoolParts) (entry : Entry) → Appends new entry after → AddsOne old after
+  then_parked after entry appends = let P : PoolParts → Type 0 = λ p. AddsOne p after in subst P same (by_entry new after entry appends)
 
 -- one more worker holds and studies nothing
 pub idle_next : (pool : PoolParts) (k : ℕ) → ((w : ℕ) → w < k → IsIdle pool w) → IsIdle pool k → (w : ℕ) → w < k + 1 → IsIdle pool w
@@ -143,8 +151,8 @@ at_least_none old new on = record { same = on.same; short = on.short; more = les
 
 -- what a pool hands out where nobody has work in hand
 pub handed_on : (old new : PoolParts) (worker : ℕ) (work : Work) → HandsOut old worker work new → GoesOn 0 old new
-handed_on old new worker (ANode ticket) hands = at_least_none old new (by_entry old new _ hands.appends)
-handed_on old new worker (ACandidate ticket) hands = at_least_none old new (by_entry old new _ hands.appends)
+handed_on old new worker (ANode ticket) hands = at_least_none old new (one_on old new (by_entry old new _ hands.appends))
+handed_on old new worker (ACandidate ticket) hands = at_least_none old new (one_on old new (by_entry old new _ hands.appends))
 handed_on old new worker Nothing hands = stayed old new hands.0
 handed_on old new worker Done hands = stayed old new hands.0
 

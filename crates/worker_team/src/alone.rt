@@ -25,7 +25,7 @@ fn pool_of_one(alloc: Global, problem: &Problem, limit: u32) -> Result<Pool, Mem
 }
 
 // What a pool leaves whose state is at rest.
-fn left_of(pool: Pool) -> Solved
+pub(crate) fn left_of(pool: Pool) -> Solved
     requires { IsAtRest pool.state }
     ensures { IsLeftOf pool result }
 {

@@ -8,7 +8,7 @@ ghost use Rattle.search_core.specs.History.{IsAtRest};
 ghost use Rattle.branch_worker.specs.Outcome.{IsOutcome};
 ghost use Rattle.node_pool.specs.Pool.{IsPool, SamePool};
 ghost use Rattle.node_pool.specs.Tickets.{IsHeldFor, IsStudiedFor, known_for};
-ghost use Rattle.worker_team.specs.Inner.Rounds.{GoesOn, IsRound, IsInHand, AllIdle};
+ghost use Rattle.worker_team.specs.Inner.Rounds.{GoesOn, AddsOne, IsRound, IsInHand, AllIdle};
 ghost use Rattle.worker_team.specs.Inner.Rounds.{IsVerdict, IsWithinLimit};
 
 use analyst::{Verdict, study};
@@ -19,7 +19,7 @@ use rows::{Known, Problem, Trace, variable_count};
 use std::alloc::Global;
 
 // The pool's problem, and what the types of the two keep.
-fn problem_in(pool: &Pool) -> &Problem
+pub(crate) fn problem_in(pool: &Pool) -> &Problem
     ensures problem { result.now ≡ pool.now.problem }
     ensures pool { IsPool pool.now }
     ensures right { IsLibrary pool.now.problem.library }
@@ -65,7 +65,7 @@ fn split_or_park(pool: &mut Pool, ticket: SearchTicket, trace: Trace, var: VarId
     requires room { 1 ≤ pool.old.spare }
     requires held { IsHeldFor pool.old ticket }
     requires branch { MayBranch (known_for pool.old ticket) ticket.cube trace var.0 }
-    ensures { GoesOn 1 pool.old pool.new }
+    ensures { AddsOne pool.old pool.new }
 {
     match pool.branch(ticket, trace, var) {
         Ok(()) => {}
@@ -74,11 +74,11 @@ fn split_or_park(pool: &mut Pool, ticket: SearchTicket, trace: Trace, var: VarId
 }
 
 // Appends the one entry that an outcome comes to.
-fn enter(pool: &mut Pool, ticket: SearchTicket, outcome: Outcome)
+pub(crate) fn enter(pool: &mut Pool, ticket: SearchTicket, outcome: Outcome)
     requires room { 1 ≤ pool.old.spare }
     requires held { IsHeldFor pool.old ticket }
     requires outcome { IsOutcome (known_for pool.old ticket) ticket.cube outcome }
-    ensures { GoesOn 1 pool.old pool.new }
+    ensures { AddsOne pool.old pool.new }
 {
     match outcome {
         Outcome::Branch { trace, var } => split_or_park(pool, ticket, trace, var),
@@ -107,11 +107,11 @@ fn verdict_on(alloc: Global, pool: &Pool, ticket: &StudyTicket) -> Verdict
 }
 
 // Appends the one entry that a verdict comes to.
-fn enter_verdict(pool: &mut Pool, ticket: StudyTicket, verdict: Verdict)
+pub(crate) fn enter_verdict(pool: &mut Pool, ticket: StudyTicket, verdict: Verdict)
     requires room { 1 ≤ pool.old.spare }
     requires studied { IsStudiedFor pool.old ticket }
     requires verdict { IsVerdict pool.old.problem.library ticket.candidate verdict }
-    ensures { GoesOn 1 pool.old pool.new }
+    ensures { AddsOne pool.old pool.new }
 {
     match verdict {
         Verdict::Meets => pool.accept(ticket),

@@ -3,8 +3,10 @@
 ghost use Rattle.std.specs.Prelude.{◌≤◌};
 ghost use Rattle.search_core.specs.declared.limits.TheConstants as limits;
 
+mod meeting;
 mod problems;
 mod replaying;
+mod teams;
 
 use crate::solve_alone;
 use crate::tests::problems::{

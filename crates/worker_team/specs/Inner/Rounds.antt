@@ -21,6 +21,12 @@ pub record GoesOn (least : ℕ) (old new : PoolParts) : Type 0 where
   pub short : new.short ≡ old.short
   pub more : length old.history + least ≤ length new.history
 
+-- a pool's history became longer by one entry; its problem, its base, its team and whether it is short of memory are the same
+pub record AddsOne (old new : PoolParts) : Type 0 where
+  pub same : SamePool old new
+  pub short : new.short ≡ old.short
+  pub one : length new.history ≡ length old.history + 1
+
 -- what a round did: where there was work, the pool went on by an entry at least; where there was none, its state is at rest
 abbrev pub IsRound : PoolParts → Bool → PoolParts → Type 0
 IsRound old true new = GoesOn 1 old new
@@ -54,3 +60,10 @@ pub record IsLeftOf (pool : PoolParts) (solved : Solved) : Type 0 where
 abbrev pub IsVerdict : LibraryParts → ArchitectureParts → Verdict → Type 0
 IsVerdict lib arch Meets = IsAdmissible lib arch
 IsVerdict lib arch (Breaks cut) = chosen_cut_of lib arch ≡ Some cut
+
+-- what a search leaves that ended from a pool: what is left of a pool at rest, with the same problem, base and team
+pub record IsEndOf (pool : PoolParts) (solved : Solved) : Type 0 where
+  pub after : PoolParts
+  pub same : SamePool pool after
+  pub rest : IsAtRest after.state
+  pub left : IsLeftOf after solved

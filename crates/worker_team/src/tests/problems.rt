@@ -194,3 +194,102 @@ pub(crate) fn two_buses(rt: &(impl Abort + AllocGlobal)) -> Result<Problem, Memo
     ];
     problem(rt, &types, &links, &patterns, &[])
 }
+
+// A type of one instance, of a network that is fed from four sides.
+fn part(name: &str, role: Role, cost: u64, supply: u64, fail: u32) -> TypeRow
+    requires { IsTypeName name.now }
+{
+    let mut part = row(name, role, 1, cost, fail);
+    part.supply = supply;
+    part
+}
+
+// A sink that demands 30.
+fn consumer(name: &str) -> TypeRow
+    requires { IsTypeName name.now }
+{
+    let mut consumer = row(name, Role::Sink, 1, 0, 0);
+    consumer.demand = 30;
+    consumer
+}
+
+fn aircraft_types() -> [TypeRow; 19] {
+    [
+        part("lgen", Role::Source, 100, 100, 100),
+        part("rgen", Role::Source, 100, 100, 100),
+        part("apu", Role::Source, 60, 60, 500),
+        part("rat", Role::Source, 30, 10, 2000),
+        part("lac", Role::Middle, 10, 0, 10),
+        part("rac", Role::Middle, 10, 0, 10),
+        part("sac", Role::Middle, 10, 0, 10),
+        part("eac", Role::Middle, 10, 0, 10),
+        part("ltru", Role::Middle, 20, 0, 50),
+        part("rtru", Role::Middle, 20, 0, 50),
+        part("stru", Role::Middle, 20, 0, 50),
+        part("etru", Role::Middle, 20, 0, 50),
+        part("ldc", Role::Middle, 10, 0, 10),
+        part("rdc", Role::Middle, 10, 0, 10),
+        part("sdc", Role::Middle, 10, 0, 10),
+        part("edc", Role::Middle, 10, 0, 10),
+        consumer("flight"),
+        consumer("avionics"),
+        consumer("cabin"),
+    ]
+}
+
+// The four sides, on each of them a source, an AC bus, a rectifier and a DC bus, and what these feed.
+fn aircraft_links() -> [LinkRow; 20] {
+    [
+        link(0, 4, 1),
+        link(1, 5, 1),
+        link(2, 6, 1),
+        link(3, 7, 1),
+        link(4, 8, 1),
+        link(5, 9, 1),
+        link(6, 10, 1),
+        link(7, 11, 1),
+        link(8, 12, 1),
+        link(9, 13, 1),
+        link(10, 14, 1),
+        link(11, 15, 1),
+        link(12, 16, 1),
+        link(13, 16, 1),
+        link(14, 16, 1),
+        link(15, 16, 1),
+        link(12, 17, 1),
+        link(13, 17, 1),
+        link(12, 18, 1),
+        link(14, 18, 1),
+    ]
+}
+
+// The power supply of an aircraft with a left, a right, an auxiliary and an emergency side, whose
+// flight controls, avionics and cabin have bounds.
+pub(crate) fn aircraft(rt: &(impl Abort + AllocGlobal)) -> Result<Problem, Memory> {
+    let mut patterns = Vec::new(rt.alloc());
+    for of in 4..16 {
+        patterns.push(fed(of, of - 4))?;
+    }
+    patterns.push(Pattern::TotalSupply)?;
+    let requirements = [
+        Requirement {
+            sink: CompId(16),
+            bound: 100_000_000,
+        },
+        Requirement {
+            sink: CompId(17),
+            bound: 50_000_000_000_000,
+        },
+        Requirement {
+            sink: CompId(18),
+            bound: 1_000_000_000_000_000,
+        },
+    ];
+    problem(
+        rt,
+        &aircraft_types(),
+        &aircraft_links(),
+        &patterns,
+        &requirements,
+    )
+}
