@@ -15,6 +15,9 @@ pub mod Coming
 pub mod AllRuns
 pub mod Headline
 pub mod MassHeadline
+pub mod LogReading
+pub mod CheckRuns
+pub mod CheckHeadline
 pub mod KeyLaws
 mod WorkedRows
 mod WorkedSearch

@@ -14,8 +14,8 @@ use Rattle.archex_app.specs.Due.{ends}
 use Rattle.archex_app.specs.Words.{probability}
 use Rattle.archex_app.specs.Refusal.{refused_library_text, refused_architecture_text}
 use Rattle.archex_app.specs.Mass.{IsSinkNamed}
-use Rattle.archex_app.specs.Answer.{ShowsRefusal, Prints}
-use Rattle.archex_app.specs.MassAnswer.{ShowsMass, RefusesArchitecture, RefusesSink, PrintsOver, MassEnds, CompletesMass}
+use Rattle.archex_app.specs.Answer.{ShowsRefusal, Prints, PrintsOver}
+use Rattle.archex_app.specs.MassAnswer.{ShowsMass, RefusesArchitecture, RefusesSink, MassEnds, CompletesMass}
 use Rattle.archex_app.specs.ComesTo.{ComesTo, MassComesTo, ReadsAs, EndsWith}
 use Rattle.archex_app.specs.Run.{Seen, EndsAsDue, RoseAmong, Runs}
 use Rattle.archex_app.proofs.RunLaws.{apart}
@@ -69,7 +69,7 @@ mass_shows : (told : List ℕ → Option (List ℕ)) (lib arch sink : List ℕ) 
 mass_shows told lib arch sink ending files text comes = elim comes [ inl read ↦ absurd (no_read (sym read)) | inr w ↦ (w.0, w.1, over_library told arch sink w.0 text ending files (library_of w.0) refl w.2) ]
 
 -- one status is that of one ending
-not_of : (status : Status) (n : ℕ) (ending other : Ending) → status ≡ record { 0 = n } → status ≡ status_of ending → ending ≡ other → (n ≡ number_of other → ⊥) → ⊥
+pub not_of : (status : Status) (n : ℕ) (ending other : Ending) → status ≡ record { 0 = n } → status ≡ status_of ending → ending ≡ other → (n ≡ number_of other → ⊥) → ⊥
 not_of status n ending other is ended same differ = apart status n (number_of other) is (ended ∙ ap status_of same) differ
 
 abbrev Its : List ℕ → List ℕ → List ℕ → Status → Seen → Seen → Type 0
@@ -82,7 +82,7 @@ mass lib arch sink status before now run is =
     elim found.2 [
       | inl w ↦ absurd (not_of status 0 due.ending library_refused is due.ended_so w.0 (λ e. omega arith))
       | inr w ↦ elim w.2 [
-        | inl v ↦ record { lib = found.0; lib_bytes = found.1; arch = w.0; arch_bytes = w.1; text = due.text; shows = v.1; printed = due.printed }
+        | inl v ↦ record { lib = found.0; lib_bytes = found.1; file = w.0; file_bytes = w.1; text = due.text; shows = v.1; printed = due.printed }
         | inr more ↦ elim more [
           | inl v ↦ absurd (not_of status 0 due.ending architecture_refused is due.ended_so v.0 (λ e. omega arith))
           | inr v ↦ absurd (not_of status 0 due.ending words_refused is due.ended_so v.0 (λ e. omega arith))
@@ -114,7 +114,7 @@ refused_architecture lib arch sink status before now run is =
       | inr w ↦ elim w.2 [
         | inl v ↦ absurd (not_of status 9 due.ending done is due.ended_so v.0 (λ e. omega arith))
         | inr more ↦ elim more [
-          | inl v ↦ record { lib = found.0; lib_bytes = found.1; arch = w.0; arch_bytes = w.1; text = due.text; shows = v.1; printed = due.printed }
+          | inl v ↦ record { lib = found.0; lib_bytes = found.1; file = w.0; file_bytes = w.1; text = due.text; shows = v.1; printed = due.printed }
           | inr v ↦ absurd (not_of status 9 due.ending words_refused is due.ended_so v.0 (λ e. omega arith))
         ]
       ]
@@ -130,7 +130,7 @@ refused_sink lib arch sink status before now run is =
         | inl v ↦ absurd (not_of status 4 due.ending done is due.ended_so v.0 (λ e. omega arith))
         | inr more ↦ elim more [
           | inl v ↦ absurd (not_of status 4 due.ending architecture_refused is due.ended_so v.0 (λ e. omega arith))
-          | inr v ↦ record { lib = found.0; lib_bytes = found.1; arch = w.0; arch_bytes = w.1; text = due.text; shows = v.1; printed = due.printed }
+          | inr v ↦ record { lib = found.0; lib_bytes = found.1; file = w.0; file_bytes = w.1; text = due.text; shows = v.1; printed = due.printed }
         ]
       ]
     ]

@@ -7,14 +7,16 @@ use Rattle.arch_model.specs.Mass.{enclosure_of}
 use Rattle.arch_csv.specs.ArchitectureOf.{architecture_of_bytes}
 use Rattle.search_core.specs.declared.answer.Answer.{Answer}
 use Rattle.search_core.specs.declared.answer.Answer.TheVariants.{Optimal, Infeasible, NodeLimit}
-use Rattle.archex_app.specs.Status.{Ending, done, infeasible, node_limit, library_refused, words_refused, architecture_refused}
+use Rattle.archex_app.specs.Status.{Ending, done, infeasible, node_limit, library_refused, words_refused, log_refused, architecture_refused}
 use Rattle.archex_app.specs.Due.{Due, ends, unread}
-use Rattle.archex_app.specs.Words.{Asked, solve, probability, refused_words_text, files_of, files_read, files_written}
+use Rattle.archex_app.specs.Words.{Asked, solve, check, probability, refused_words_text, files_of, files_read, files_written}
 use Rattle.archex_app.specs.Report.{ending_of}
+use Rattle.log_checker.specs.declared.error.No.{No}
+use Rattle.archex_app.specs.Verdict.{IsPassing, IsBroken, yes_text, no_text}
 use Rattle.archex_app.specs.Mass.{IsSinkNamed, mass_text}
 use Rattle.archex_app.specs.Refusal.{refused_library_text, refused_architecture_text}
 use Rattle.archex_app.specs.Endings.{endings_of}
-use Rattle.archex_app.specs.ComesTo.{ComesTo, CommandComesTo, EndsWith, Reads, ReadsAs, SearchComesTo, ALONE, MassComesTo}
+use Rattle.archex_app.specs.ComesTo.{ComesTo, CommandComesTo, EndsWith, Reads, ReadsAs, SearchComesTo, ALONE, VerdictComesTo, MassComesTo}
 use Rattle.archex_app.specs.Run.{names_of}
 
 -- it ends with one of these endings, and reads and writes none but these files
@@ -137,6 +139,12 @@ search_within log limit workers analysts l reads = record {
   read = λ name is. absurd (no_read is.4);
 }
 
+verdict_within : (l : LibraryParts) (bytes : List ℕ) (read written : List (List ℕ)) → Within (λ due. VerdictComesTo l bytes due) (done ∷ library_refused ∷ log_refused ∷ []) read written
+verdict_within l bytes read written =
+    either_within (λ due. (answer : Answer) × IsPassing l bytes answer × EndsWith done (yes_text answer) due) (λ due. (refused : No) × IsBroken l bytes refused × EndsWith log_refused (no_text refused) due) _ _ _
+    (some_within (IsPassing l bytes) (λ (answer : Answer). EndsWith done (yes_text answer)) _ _ _ (λ answer. ends_within done _ _ _ _ (at_0 done (library_refused ∷ log_refused ∷ []))))
+    (some_within (IsBroken l bytes) (λ (refused : No). EndsWith log_refused (no_text refused)) _ _ _ (λ refused. ends_within log_refused _ _ _ _ (at_2 done library_refused log_refused [])))
+
 sink_within : (sink : List ℕ) (l : LibraryParts) (a : ArchitectureParts) (read written : List (List ℕ)) → Within (λ due. MassComesTo sink l a due) (done ∷ library_refused ∷ words_refused ∷ architecture_refused ∷ []) read written
 sink_within sink l a read written =
     either_within (λ due. (s : ℕ) × IsSinkNamed l sink s × EndsWith done (mass_text (enclosure_of l a s)) due) (λ due. ((s : ℕ) → IsSinkNamed l sink s → ⊥) × EndsWith words_refused (refused_words_text 4) due) _ _ _
@@ -147,6 +155,9 @@ pub command_within : (told : List ℕ → Option (List ℕ)) (asked : Asked) →
 command_within told (solve ask) =
     reads_as_within library_of library_refused refused_library_text told ask.lib (SearchComesTo ask.log ask.branchings ALONE ALONE) _ _ _ (at_0 ask.lib []) (at_3 done infeasible node_limit library_refused [])
     (λ l. search_within ask.log ask.branchings ALONE ALONE l (ask.lib ∷ []))
+command_within told (check lib log) =
+    reads_as_within library_of library_refused refused_library_text told lib (λ l. Reads told log (VerdictComesTo l)) _ _ _ (at_0 lib (log ∷ [])) (at_1 done library_refused (log_refused ∷ []))
+    (λ l. reads_within told log (VerdictComesTo l) _ _ _ (at_1 lib log []) (λ bytes. verdict_within l bytes _ _))
 command_within told (probability lib arch sink) =
     reads_as_within library_of library_refused refused_library_text told lib (λ l. ReadsAs (architecture_of_bytes l) architecture_refused refused_architecture_text told arch (MassComesTo sink l)) _ _ _ (at_0 lib (arch ∷ []))
     (at_1 done library_refused (words_refused ∷ architecture_refused ∷ []))

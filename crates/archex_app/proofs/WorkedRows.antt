@@ -76,7 +76,7 @@ solve_more_analysts = with_workers (codes "3") ∙ ap (λ o. numbered 6 o (λ a.
 solve_leading_zero : command_of (words_of (codes "05") (codes "1")) ≡ Err 4
 solve_leading_zero = ap (λ o. numbered 4 o (λ b. numbered 5 (numeral 1 WORKERS (codes "2")) (λ w. numbered 6 (numeral 0 w (codes "1")) (λ a. Ok (solve (ask_of b w a)))))) leading_zero
 
-check_a : command_of (codes "check" ∷ codes "a" ∷ []) ≡ Err 1
+check_a : command_of (codes "check" ∷ codes "a" ∷ []) ≡ Err 3
 check_a = refl
 
 solve_only : command_of (codes "solve" ∷ []) ≡ Err 2
@@ -119,7 +119,7 @@ reads_both = refl
 abbrev untold : List ℕ → Option (List ℕ)
 untold name = None
 
-refused : ComesTo untold (command_of (codes "check" ∷ [])) (ends words_refused [] (refused_words_text 1))
+refused : ComesTo untold (command_of (codes "check" ∷ [])) (ends words_refused [] (refused_words_text 2))
 refused = refl
 
 reads_first : ComesTo untold (Ok (solve (ask_of 5 2 1))) (unread (codes "a"))

@@ -56,7 +56,17 @@ pub record Prints (Shows : List ℕ → List ℕ → Type 0) (file_told before n
   pub shows : Shows bytes text
   pub printed : Appends before now text
 
--- the front of such a text was printed
+-- such a fact of the bytes of a library and of another file
+pub record PrintsOver (Shows : List ℕ → List ℕ → List ℕ → Type 0) (lib_told file_told before now : Option (List ℕ)) : Type 0 where
+  pub lib : List ℕ
+  pub lib_bytes : IfSome lib_told (λ all. lib ≡ all)
+  pub file : List ℕ
+  pub file_bytes : IfSome file_told (λ all. file ≡ all)
+  pub text : List ℕ
+  pub shows : Shows lib file text
+  pub printed : Appends before now text
+
+-- the front of a text that shows a fact of a file's bytes was printed
 pub record PrintsFront (Shows : List ℕ → List ℕ → Type 0) (file_told before now : Option (List ℕ)) : Type 0 where
   pub bytes : List ℕ
   pub told : IfSome file_told (λ all. bytes ≡ all)

@@ -6,12 +6,14 @@ use Rattle.search_core.specs.declared.entry.Entry.{Entry}
 use Rattle.search_core.specs.declared.answer.Answer.{Answer}
 use Rattle.search_core.specs.State.{SearchState}
 use Rattle.lib_read.specs.LibraryOf.{library_of}
+use Rattle.log_checker.specs.declared.error.No.{No}
 use Rattle.arch_csv.specs.ArchitectureOf.{architecture_of_bytes}
-use Rattle.archex_app.specs.Status.{Ending, done, library_refused, words_refused, architecture_refused}
+use Rattle.archex_app.specs.Status.{Ending, done, library_refused, words_refused, log_refused, architecture_refused}
 use Rattle.archex_app.specs.Due.{Due, ends, unread}
-use Rattle.archex_app.specs.Words.{Asked, solve, probability, refused_words_text}
+use Rattle.archex_app.specs.Words.{Asked, solve, check, probability, refused_words_text}
 use Rattle.archex_app.specs.Search.{IsSearch, search_log}
 use Rattle.archex_app.specs.Report.{search_report, ending_of}
+use Rattle.archex_app.specs.Verdict.{IsPassing, IsBroken, yes_text, no_text}
 use Rattle.archex_app.specs.Mass.{IsSinkNamed, mass_text}
 use Rattle.archex_app.specs.Refusal.{refused_library_text, refused_architecture_text}
 
@@ -51,6 +53,12 @@ SearchComesTo log limit workers analysts lib due =
 abbrev pub ALONE : ℕ
 ALONE = 1
 
+-- what `check` comes to over the bytes of a log: yes with the answer with which it passes, or no with its first broken line and the first rule that this breaks
+abbrev pub VerdictComesTo : LibraryParts → List ℕ → Due → Type 0
+VerdictComesTo lib bytes due =
+    ((answer : Answer) × IsPassing lib bytes answer × EndsWith done (yes_text answer) due)
+    ⊎ ((refused : No) × IsBroken lib bytes refused × EndsWith log_refused (no_text refused) due)
+
 -- what `probability` comes to: two bounds of the failure mass of the sink, whose name is word 4
 abbrev pub MassComesTo : List ℕ → LibraryParts → ArchitectureParts → Due → Type 0
 MassComesTo sink lib arch due = OverSink lib sink 4 (λ s. EndsWith done (mass_text (enclosure_of lib arch s))) due
@@ -58,6 +66,7 @@ MassComesTo sink lib arch due = OverSink lib sink 4 (λ s. EndsWith done (mass_t
 -- what a command comes to
 abbrev pub CommandComesTo : (List ℕ → Option (List ℕ)) → Asked → Due → Type 0
 CommandComesTo told (solve ask) due = OverLibrary told ask.lib (SearchComesTo ask.log ask.branchings ALONE ALONE) due
+CommandComesTo told (check lib log) due = OverLibrary told lib (λ l. Reads told log (VerdictComesTo l)) due
 CommandComesTo told (probability lib arch sink) due = OverArchitecture told lib arch (MassComesTo sink) due
 
 -- what words come to: their command, or the refusal for the first that isn't as it should be

@@ -1,12 +1,13 @@
 -- How a run of each command may end.
 use Rattle.std.specs.Prelude.{◌≡◌, ℕ, List, [], ◌∷◌, ◌++◌, Contains, Result, Ok, Err}
 use Rattle.archex_app.specs.declared.status.Status.{Status}
-use Rattle.archex_app.specs.Status.{Ending, status_of, done, infeasible, node_limit, library_refused, words_refused, read_fault, write_fault, no_memory, architecture_refused}
-use Rattle.archex_app.specs.Words.{Asked, solve, probability}
+use Rattle.archex_app.specs.Status.{Ending, status_of, done, infeasible, node_limit, library_refused, words_refused, read_fault, write_fault, no_memory, log_refused, architecture_refused}
+use Rattle.archex_app.specs.Words.{Asked, solve, check, probability}
 
 -- the endings that may be due of a command
 abbrev pub endings_of : Asked → List Ending
 endings_of (solve ask) = done ∷ infeasible ∷ node_limit ∷ library_refused ∷ []
+endings_of (check lib log) = done ∷ library_refused ∷ log_refused ∷ []
 endings_of (probability lib arch sink) = done ∷ library_refused ∷ words_refused ∷ architecture_refused ∷ []
 
 -- those of a run of words: a command may also end with a fault of the outside, or for want of memory; refused words end with their refusal, or with a fault of the sink

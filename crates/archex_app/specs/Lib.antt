@@ -4,6 +4,7 @@ pub mod Commands
 pub mod Cheapest
 pub mod Report
 pub mod Search
+pub mod Verdict
 pub mod Mass
 pub mod Refusal
 pub mod Due
@@ -11,6 +12,7 @@ pub mod ComesTo
 pub mod Endings
 pub mod Run
 pub mod Answer
+pub mod Checked
 pub mod MassAnswer
 pub mod Complete
 pub mod Searched

@@ -1,6 +1,5 @@
 -- What a text shows of the bytes of a library and of an architecture, and which status always comes of `probability`.
-use Rattle.std.specs.Prelude.{◌≡◌, ℕ, ◌*◌, ◌^◌, ◌≤◌, Option, List, ◌⊎◌, Ok, Err, IfSome, MatchResult}
-use Rattle.outside.specs.Told.{Appends}
+use Rattle.std.specs.Prelude.{◌≡◌, ℕ, ◌*◌, ◌^◌, ◌≤◌, List, ◌⊎◌, Ok, Err, MatchResult}
 use Rattle.arch_model.specs.Parts.{LibraryParts, ArchitectureParts}
 use Rattle.arch_model.specs.Member.{member_count}
 use Rattle.arch_model.specs.Mass.{mass_of, enclosure_of}
@@ -45,16 +44,6 @@ pub record RefusesSink (name lib_bytes arch_bytes text : List ℕ) : Type 0 wher
   pub arch_read : architecture_of_bytes lib arch_bytes ≡ Ok arch
   pub none : (sink : ℕ) → IsSinkNamed lib name sink → ⊥
   pub report : text ≡ refused_words_text 4
-
--- a text was printed whole that shows a fact of the bytes of two files: those that the shelf tells, or where it tells none, some bytes, of which nothing more is said
-pub record PrintsOver (Shows : List ℕ → List ℕ → List ℕ → Type 0) (lib_told arch_told before now : Option (List ℕ)) : Type 0 where
-  pub lib : List ℕ
-  pub lib_bytes : IfSome lib_told (λ all. lib ≡ all)
-  pub arch : List ℕ
-  pub arch_bytes : IfSome arch_told (λ all. arch ≡ all)
-  pub text : List ℕ
-  pub shows : Shows lib arch text
-  pub printed : Appends before now text
 
 -- which status comes of these bytes: bytes that aren't a library are refused, then those that aren't an architecture of it, then a name that no sink has
 abbrev pub MassEnds : List ℕ → List ℕ → List ℕ → Status → Type 0

@@ -4,7 +4,7 @@ use Rattle.archex_app.specs.declared.status.Status.{Status}
 
 -- how a run may end
 pub data Ending : Type 0 where
-  -- the command did what it is for: `solve` printed a cheapest architecture, `probability` two bounds
+  -- the command did what it is for: `solve` printed a cheapest architecture, `check` said yes to a log, `probability` printed two bounds
   done : Ending
   -- no architecture meets the patterns and bounds
   infeasible : Ending

@@ -23,6 +23,8 @@ pub record SolveWords : Type 0 where
 pub data Asked : Type 0 where
   -- to solve a library
   solve : SolveWords → Asked
+  -- to check a log against a library: their names
+  check : List ℕ → List ℕ → Asked
   -- the failure mass: of a library's and an architecture's name, and of a component's
   probability : List ℕ → List ℕ → List ℕ → Asked
 
@@ -71,6 +73,11 @@ solve_of (lib ∷ log ∷ branchings ∷ workers ∷ analysts ∷ []) =
     option_map_or Err (bad_name lib log) (solve_numbers lib log branchings workers analysts)
 solve_of args = Err (miscounted 5 args)
 
+-- the words after `check`: the names of a library and of a log, which may be one
+abbrev pub check_of : List (List ℕ) → Result Asked ℕ
+check_of (lib ∷ log ∷ []) = unless_empty (lib ∷ log ∷ []) (check lib log)
+check_of args = Err (miscounted 2 args)
+
 -- the words after `probability`: the names of a library, of an architecture and of a component
 abbrev pub probability_of : List (List ℕ) → Result Asked ℕ
 probability_of (lib ∷ arch ∷ sink ∷ []) = unless_empty (lib ∷ arch ∷ sink ∷ []) (probability lib arch sink)
@@ -81,12 +88,17 @@ abbrev pub command_of : List (List ℕ) → Result Asked ℕ
 command_of [] = Err 1
 command_of (command ∷ args) =
     if bytes_eq command (codes "solve") then solve_of args
+    else if bytes_eq command (codes "check") then check_of args
     else if bytes_eq command (codes "probability") then probability_of args
     else Err 1
 
 -- the words ask to solve a library
 abbrev pub AskToSolve : List (List ℕ) → SolveWords → Type 0
 AskToSolve words ask = command_of words ≡ Ok (solve ask)
+
+-- the words ask to check a log against a library
+abbrev pub AskToCheck : List (List ℕ) → List ℕ → List ℕ → Type 0
+AskToCheck words lib log = command_of words ≡ Ok (check lib log)
 
 -- the words ask for the failure mass of a component in an architecture of a library
 abbrev pub AskForMass : List (List ℕ) → List ℕ → List ℕ → List ℕ → Type 0
@@ -95,11 +107,13 @@ AskForMass words lib arch sink = command_of words ≡ Ok (probability lib arch s
 -- the files that a command reads
 abbrev pub files_read : Asked → List (List ℕ)
 files_read (solve ask) = ask.lib ∷ []
+files_read (check lib log) = lib ∷ log ∷ []
 files_read (probability lib arch sink) = lib ∷ arch ∷ []
 
 -- the files that a command writes
 abbrev pub files_written : Asked → List (List ℕ)
 files_written (solve ask) = ask.log ∷ []
+files_written (check lib log) = []
 files_written (probability lib arch sink) = []
 
 -- those of the command that words are; of refused words none

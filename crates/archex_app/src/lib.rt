@@ -2,8 +2,9 @@
 //!
 //! `run_plain` does what its words ask, over a shelf of files and a sink: `solve` searches a library
 //! for an admissible architecture of least cost, one that meets all patterns and whose required
-//! sinks weigh no more than their bounds, and `probability` gives two bounds of the failure mass of
-//! a sink. Its contract is the promise of the whole program, over bytes in and bytes out: what each
+//! sinks weigh no more than their bounds, `check` says whether a log is that of a search of the
+//! library, whoever wrote it, and with which answer, and `probability` gives two bounds of the failure
+//! mass of a sink. Its contract is the promise of the whole program, over bytes in and bytes out: what each
 //! status says of the files' bytes and of all architectures, which fault is the cause of each status
 //! that isn't an answer, and which status always comes where nothing outside failed.
 //!
@@ -18,12 +19,13 @@
 //!
 //! Stands on `lib_read` for the library, `binary_program` for the rows that say what its patterns
 //! say, `worker_team` for the search, `search_core` for what a history and its answer say,
-//! `proof_log` for the log's text, `sink_weight` for the report, `arch_csv` for architecture files,
-//! `fail_mass` for the failure mass, `outside` for the shelf and the sink, `arrayvec` and `itoa` for
-//! a line that takes no memory, and on nothing of the system.
+//! `proof_log` for the log's text, `log_checker` for who judges it, `sink_weight` for the report,
+//! `arch_csv` for architecture files, `fail_mass` for the failure mass, `outside` for the shelf and
+//! the sink, `arrayvec` and `itoa` for a line that takes no memory, and on nothing of the system.
 #![tactic(auto)]
 
 mod architecture;
+mod check;
 mod library;
 mod log_file;
 mod outcome;
@@ -37,6 +39,7 @@ mod sink;
 mod solve;
 mod status;
 mod sure;
+mod verdict;
 mod words;
 
 pub use run::run_plain;
@@ -52,6 +55,8 @@ mod tests_of_cubes;
 mod tests_of_cuts;
 #[cfg(test)]
 mod tests_of_examples;
+#[cfg(test)]
+mod tests_of_logs;
 #[cfg(test)]
 mod tests_of_probability;
 #[cfg(test)]

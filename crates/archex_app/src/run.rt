@@ -7,20 +7,22 @@ ghost use Rattle.arch_model.specs.Member.{member_count};
 ghost use Rattle.lib_read.specs.LibraryOf.{library_of};
 ghost use Rattle.lib_read.specs.declared.fault.LibFault.{LibFault};
 ghost use Rattle.archex_app.specs.Words.{texts, command_of, files_of, files_read, files_written};
-ghost use Rattle.archex_app.specs.Words.{SolveWords, AskToSolve, AskForMass, refused_words_text};
-ghost use Rattle.archex_app.specs.Status.{status_of, done, infeasible, node_limit, library_refused};
+ghost use Rattle.archex_app.specs.Words.{SolveWords, AskToSolve, AskToCheck, AskForMass, refused_words_text};
+ghost use Rattle.archex_app.specs.Status.{status_of, done, infeasible, node_limit, library_refused, log_refused};
 ghost use Rattle.archex_app.specs.Status.{words_refused};
 ghost use Rattle.archex_app.specs.Status.{read_fault, write_fault, no_memory, architecture_refused};
 ghost use Rattle.archex_app.specs.Endings.{MayEnd};
 ghost use Rattle.archex_app.specs.Run.{Runs, RoseAmong, seen};
 ghost use Rattle.archex_app.specs.Complete.{Completes};
 ghost use Rattle.archex_app.specs.Answer.{ShowsCheapest, ShowsInfeasible, ShowsNodeLimit, ShowsRefusal};
-ghost use Rattle.archex_app.specs.Answer.{ShowsReport, Prints, PrintsFront};
+ghost use Rattle.archex_app.specs.Answer.{ShowsReport, Prints, PrintsOver, PrintsFront};
 ghost use Rattle.archex_app.specs.Searched.{Answered, ShowsSearch, LeavesLog, CutsText};
 ghost use Rattle.archex_app.specs.ComesTo.{ALONE};
-ghost use Rattle.archex_app.specs.MassAnswer.{ShowsMass, RefusesArchitecture, RefusesSink, PrintsOver, CompletesMass};
+ghost use Rattle.archex_app.specs.Checked.{ShowsYes, ShowsNo, CompletesCheck};
+ghost use Rattle.archex_app.specs.MassAnswer.{ShowsMass, RefusesArchitecture, RefusesSink, CompletesMass};
 ghost use Rattle.archex_app.specs.Inner.Outcome.{Printed};
 
+use crate::check::check_log;
 use crate::outcome::print;
 use crate::probability::enclose_mass;
 use crate::refusal::words_line;
@@ -64,6 +66,7 @@ fn run_command<F: Shelf, O: Sink>(
                 ..
             },
         ) => solve_library(alloc, lib, log, branchings, shelf, out),
+        Ok(Command::Check { lib, log }) => check_log(alloc, lib, log, shelf, out),
         Ok(Command::Probability { lib, arch, sink }) => {
             enclose_mass(alloc, lib, arch, sink, shelf, out)
         }
@@ -74,8 +77,10 @@ fn run_command<F: Shelf, O: Sink>(
 /// Does what the words ask, with one worker: `solve LIB LOG BRANCHINGS WORKERS ANALYSTS` reads the
 /// library LIB from the shelf, searches for an architecture of least cost among all that meet its
 /// patterns and keep its bounds on weights, for at most BRANCHINGS branchings, writes the log of the
-/// search under LOG, and prints a report to the sink. `probability LIB ARCH SINK` reads a library
-/// and an architecture of it, and prints two bounds of the failure mass of a sink.
+/// search under LOG, and prints a report to the sink. `check LIB LOG` says whether the log passes for
+/// the library, and with which answer, or which line is the first to break a rule. `probability LIB
+/// ARCH SINK` reads a library and an architecture of it, and prints two bounds of the failure mass of
+/// a sink.
 ///
 /// It returns for all arguments; want of memory alone is free to come anywhere, but for words that
 /// are refused, which take none.
@@ -147,6 +152,29 @@ pub fn run_plain<F: Shelf, O: Sink>(
     ensures enough { (ask : SolveWords) (bytes : List ℕ) (lib : LibraryParts) → AskToSolve (texts words.now) ask
         → F.told shelf.old ask.lib ≡ Some bytes → library_of bytes ≡ Ok lib
         → 2 ^ member_count lib ≤ ask.branchings → ¬ (result ≡ status_of node_limit) }
+
+    // What each status of `check` says of the bytes of LIB and LOG, whoever wrote the log, of all
+    // architectures, and of what was printed. A yes comes exactly of a log that passes, where no call
+    // of the outside failed and there was memory, and else a no, with the log's first broken line.
+    ensures yes { (lib log : List ℕ) → AskToCheck (texts words.now) lib log → result ≡ status_of done
+        → PrintsOver ShowsYes (F.told shelf.old lib) (F.told shelf.old log)
+        (O.told out.old) (O.told out.new) }
+    ensures no { (lib log : List ℕ) → AskToCheck (texts words.now) lib log → result ≡ status_of log_refused
+        → PrintsOver ShowsNo (F.told shelf.old lib) (F.told shelf.old log)
+        (O.told out.old) (O.told out.new) }
+    ensures check_refused_library { (lib log : List ℕ) → AskToCheck (texts words.now) lib log
+        → result ≡ status_of library_refused
+        → Prints ShowsRefusal (F.told shelf.old lib) (O.told out.old) (O.told out.new) }
+    ensures check_complete { (lib log lib_bytes log_bytes : List ℕ) → AskToCheck (texts words.now) lib log
+        → F.told shelf.old lib ≡ Some lib_bytes → F.told shelf.old log ≡ Some log_bytes
+        → ¬ Rose (F.read_faults shelf.old lib) (F.read_faults shelf.new lib)
+        → ¬ Rose (F.read_faults shelf.old log) (F.read_faults shelf.new log)
+        → ¬ Rose (O.faults out.old) (O.faults out.new) → CompletesCheck lib_bytes log_bytes result }
+    ensures check_always_refused { (lib log bytes : List ℕ) (fault : LibFault) → AskToCheck (texts words.now) lib log
+        → F.told shelf.old lib ≡ Some bytes → library_of bytes ≡ Err fault
+        → ¬ Rose (F.read_faults shelf.old lib) (F.read_faults shelf.new lib)
+        → ¬ Rose (O.faults out.old) (O.faults out.new)
+        → (result ≡ status_of library_refused) ⊎ (result ≡ status_of no_memory) }
 
     // What each status of `probability` says of the bytes of LIB and ARCH, of SINK and of what was
     // printed.

@@ -6,8 +6,8 @@
 pub struct Status(pub u8);
 
 impl Status {
-    /// The command did what it is for: `solve` printed a cheapest architecture, `probability` two
-    /// bounds of a failure mass.
+    /// The command did what it is for: `solve` printed a cheapest architecture, `check` said yes to a
+    /// log, `probability` printed two bounds of a failure mass.
     pub const DONE: Status = Status(0);
     /// No architecture meets the patterns and keeps the bounds on weights.
     pub const INFEASIBLE: Status = Status(1);
@@ -23,6 +23,8 @@ impl Status {
     pub const WRITE_FAULT: Status = Status(6);
     /// There was no memory.
     pub const NO_MEMORY: Status = Status(7);
+    /// The checker says no: a line of the log breaks a rule, or the log has no end.
+    pub const LOG_REFUSED: Status = Status(8);
     /// The bytes of the architecture file aren't an architecture of the library.
     pub const ARCHITECTURE_REFUSED: Status = Status(9);
 }

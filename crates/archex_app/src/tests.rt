@@ -3,7 +3,7 @@ use outside::{Failed, MemShelf, MemSink, Shelf, Sink, SureShelf, SureSink};
 use std::alloc::{AllocError, Global};
 use std::test::Fail;
 
-const X: &[u8] = b"type = [{name = \"x\", role = \"middle\", cost = 7}]
+pub(crate) const X: &[u8] = b"type = [{name = \"x\", role = \"middle\", cost = 7}]
 pattern = [{kind = \"count\", type = \"x\", min = 1}]
 ";
 
@@ -30,7 +30,7 @@ const SOLVE_X: &[&str] = &["solve", "x.toml", "x.log", "0", "1", "0"];
 const LOG_ROOM: usize = 1 << 20;
 
 // The words, each as a text of its own.
-fn words_of(alloc: Global, words: &[&str]) -> Result<Vec<String>, AllocError> {
+pub(crate) fn words_of(alloc: Global, words: &[&str]) -> Result<Vec<String>, AllocError> {
     let mut all = Vec::new(alloc);
     for word in words {
         all.push(word.to_string(alloc)?)?;
@@ -39,7 +39,7 @@ fn words_of(alloc: Global, words: &[&str]) -> Result<Vec<String>, AllocError> {
 }
 
 // A shelf with a library under `x.toml` and a text under `x.log`, with these calls failing.
-fn shelf_with(
+pub(crate) fn shelf_with(
     alloc: Global,
     library: &[u8],
     log: &[u8],
@@ -390,7 +390,7 @@ fn too_large_a_file_is_refused(rt: HostRuntime) -> Result<(), Fail> {
 // of its range, or more analysts than workers.
 #[test]
 fn other_words_are_refused(rt: HostRuntime) -> Result<(), Fail> {
-    let rows: [(&[&str], &[u8]); 24] = [
+    let rows: [(&[&str], &[u8]); 29] = [
         (&[], b"refused words 1\n"),
         (&["Solve", "a", "b", "5", "1", "0"], b"refused words 1\n"),
         (&["", "a", "b", "5", "1", "0"], b"refused words 1\n"),
@@ -420,7 +420,12 @@ fn other_words_are_refused(rt: HostRuntime) -> Result<(), Fail> {
         (&["solve", "a", "b", "5", "many", ""], b"refused words 5\n"),
         (&["solve", "a", "b", "5", "2", "3"], b"refused words 6\n"),
         (&["solve", "a", "b", "5", "2", "00"], b"refused words 6\n"),
-        (&["check", "a", "b"], b"refused words 1\n"),
+        (&["rows", "a", "b"], b"refused words 1\n"),
+        (&["check"], b"refused words 2\n"),
+        (&["check", "a"], b"refused words 3\n"),
+        (&["check", "", "b", "c"], b"refused words 4\n"),
+        (&["check", "", ""], b"refused words 2\n"),
+        (&["check", "a", ""], b"refused words 3\n"),
     ];
     for (words, text) in rows {
         let (ended, printed) = run_on(rt.alloc(), words, X, &[])?;
@@ -476,8 +481,8 @@ fn each_failing_call_ends_the_run(rt: HostRuntime) -> Result<(), Fail> {
 
 // A shelf and a sink that move one byte a call.
 #[derive(Drop)]
-struct Slow<T> {
-    inner: T,
+pub(crate) struct Slow<T> {
+    pub(crate) inner: T,
 }
 
 impl<F: Shelf> Shelf for Slow<F> {

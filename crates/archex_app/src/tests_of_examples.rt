@@ -33,7 +33,7 @@ require = [
 ]
 "#;
 
-const RADIO_MAST: &[u8] = br#"type = [
+pub(crate) const RADIO_MAST: &[u8] = br#"type = [
   {name = "generator", role = "source", max = 2, cost = 120, supply = 60, fail = 900},
   {name = "cell", role = "source", cost = 90, supply = 25, fail = 400},
   {name = "bus", role = "middle", max = 3, cost = 20, fail = 15},
@@ -59,7 +59,7 @@ pattern = [
 ]
 "#;
 
-const SENSOR_BUS: &[u8] = br#"type = [
+pub(crate) const SENSOR_BUS: &[u8] = br#"type = [
   {name = "tracker", role = "source", max = 3, cost = 40, fail = 2000},
   {name = "gyroscope", role = "source", max = 2, cost = 70, fail = 500},
   {name = "channel", role = "middle", max = 2, cost = 12, fail = 100},
@@ -73,7 +73,7 @@ link = [
 require = [{sink = "computer.1", bound = 50000000000}]
 "#;
 
-const SUBSTATION: &[u8] = br#"type = [
+pub(crate) const SUBSTATION: &[u8] = br#"type = [
   {name = "line", role = "source", max = 2, cost = 90, fail = 800},
   {name = "transformer", role = "middle", max = 2, cost = 60, fail = 300},
   {name = "busbar", role = "middle", max = 2, cost = 15, fail = 20},

@@ -116,6 +116,13 @@ fn two_buses(alloc: Global, requirements: &str) -> Result<String, AllocError> {
     Ok(text)
 }
 
+// The two buses, with this bound on the weight of the load.
+pub(crate) fn bounded_buses(alloc: Global, bound: &str) -> Result<String, AllocError> {
+    let mut text = TWO_BUSES.to_string(alloc)?;
+    write!(text, "require = [{{sink = \"load.1\", bound = {bound}}}]\n")?;
+    Ok(text)
+}
+
 // The two buses under a bound, with the first lines and the last that are due: one chain of which
 // equality is admitted; one whose sum alone is above the bound; one of which the generator alone is;
 // of which the bus alone is; of which three members are by their sum; bounds that nothing is within;

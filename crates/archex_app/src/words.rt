@@ -2,7 +2,7 @@
 ghost use Rattle.std.specs.Prelude.{◌≡◌, ◌≤◌, length, Ok, Err, Some, None, IfOk, IfErr, OnOk};
 ghost use Rattle.std.specs.Fmt.{decimal};
 ghost use Rattle.std.specs.Str.{bytes_eq};
-ghost use Rattle.archex_app.specs.Words.{texts, command_of, solve_of, probability_of};
+ghost use Rattle.archex_app.specs.Words.{texts, command_of, solve_of, check_of, probability_of};
 ghost use Rattle.archex_app.specs.Words.{bad_name, empty_word};
 ghost use Rattle.archex_app.specs.Words as spec;
 ghost use Rattle.archex_app.specs.Commands.{asked, IsInRange};
@@ -25,6 +25,11 @@ pub enum Command<'a> {
         workers: u32,
         /// How many of them are analysts, at most all.
         analysts: u32,
+    },
+    /// To check a log against a library: their names, which may be one.
+    Check {
+        lib: &'a str,
+        log: &'a str,
     },
     /// The failure mass of a component of role sink, in an architecture of a library: their names.
     Probability {
@@ -139,6 +144,22 @@ fn read_solve(args: &[String]) -> Result<Command<'_>, WordFault>
     })
 }
 
+// The words after `check`.
+fn read_check(args: &[String]) -> Result<Command<'_>, WordFault>
+    ensures command { IfOk result (λ command. check_of (texts args.now) ≡ Ok (asked command)) }
+    ensures range { IfOk result IsInRange }
+    ensures fault { IfErr result (λ fault. check_of (texts args.now) ≡ Err fault.place) }
+{
+    let [lib, log] = args else {
+        return Err(miscounted(2, args));
+    };
+    check_words(args)?;
+    Ok(Command::Check {
+        lib: lib.as_str(),
+        log: log.as_str(),
+    })
+}
+
 // The words after `probability`.
 fn read_probability(args: &[String]) -> Result<Command<'_>, WordFault>
     ensures command { IfOk result (λ command. probability_of (texts args.now) ≡ Ok (asked command)) }
@@ -155,9 +176,9 @@ fn read_probability(args: &[String]) -> Result<Command<'_>, WordFault>
     })
 }
 
-/// What the words ask for: `solve LIB LOG BRANCHINGS WORKERS ANALYSTS` or `probability LIB ARCH SINK`.
-/// An empty word is bad in every place, and so is a log that is the library. Numbers are decimal
-/// digits without sign or leading zero.
+/// What the words ask for: `solve LIB LOG BRANCHINGS WORKERS ANALYSTS`, `check LIB LOG` or
+/// `probability LIB ARCH SINK`. An empty word is bad in every place, and so is a log to be written
+/// that is the library. Numbers are decimal digits without sign or leading zero.
 pub fn read_words(words: &[String]) -> Result<Command<'_>, WordFault>
     ensures command { IfOk result (λ command. command_of (texts words.now) ≡ Ok (asked command)) }
     ensures range { IfOk result IsInRange }
@@ -168,6 +189,7 @@ pub fn read_words(words: &[String]) -> Result<Command<'_>, WordFault>
     };
     match command.as_str() {
         "solve" => read_solve(args),
+        "check" => read_check(args),
         "probability" => read_probability(args),
         _ => Err(WordFault { place: 1 }),
     }

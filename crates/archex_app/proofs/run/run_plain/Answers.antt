@@ -1,5 +1,6 @@
 use Rattle.archex_app.proofs.AllRuns.{run_of_words, refused_first, refused, may_end, read_among, write_rose, prints_nothing, reads_stay, writes_stay, prints_stay}
 use Rattle.archex_app.proofs.Headline.{optimal, none_meets, limit_met, refused_library, read_rose, cut_short, searched, leaves_log, unlogged, logged, log_stays, completes, always_refused, enough}
+use Rattle.archex_app.proofs.CheckHeadline as check
 use Rattle.archex_app.proofs.MassHeadline as mass
 use Rattle.archex_app.proofs.run.run_plain.Goals as goal
 
@@ -86,3 +87,18 @@ returns-clause-refused_sink g c lib arch sink asked is = mass.refused_sink lib a
 
 pub returns-clause-mass_complete : goal.returns-clause-mass_complete
 returns-clause-mass_complete g c lib arch sink lib_bytes arch_bytes asked lib_tells arch_tells lib_reads arch_reads prints = mass.completes lib arch sink lib_bytes arch_bytes _ _ _ (run_of_words _ _ _ _ _ asked c.run_command.ensures.run) lib_tells arch_tells lib_reads arch_reads prints
+
+pub returns-clause-yes : goal.returns-clause-yes
+returns-clause-yes g c lib log asked is = check.yes lib log _ _ _ (run_of_words _ _ _ _ _ asked c.run_command.ensures.run) is
+
+pub returns-clause-no : goal.returns-clause-no
+returns-clause-no g c lib log asked is = check.no lib log _ _ _ (run_of_words _ _ _ _ _ asked c.run_command.ensures.run) is
+
+pub returns-clause-check_refused_library : goal.returns-clause-check_refused_library
+returns-clause-check_refused_library g c lib log asked is = check.refused_library lib log _ _ _ (run_of_words _ _ _ _ _ asked c.run_command.ensures.run) is
+
+pub returns-clause-check_complete : goal.returns-clause-check_complete
+returns-clause-check_complete g c lib log lib_bytes log_bytes asked lib_tells log_tells lib_reads log_reads prints = check.completes lib log lib_bytes log_bytes _ _ _ (run_of_words _ _ _ _ _ asked c.run_command.ensures.run) lib_tells log_tells lib_reads log_reads prints
+
+pub returns-clause-check_always_refused : goal.returns-clause-check_always_refused
+returns-clause-check_always_refused g c lib log bytes fault asked tells bad reads prints = check.always_refused lib log bytes fault _ _ _ (run_of_words _ _ _ _ _ asked c.run_command.ensures.run) tells bad reads prints
