@@ -168,6 +168,19 @@ fn logs_are_judged(rt: HostRuntime) -> Result<(), Fail> {
     Ok(())
 }
 
+// Whether `check` of a library and a log of these lines ends so and prints this.
+fn says(
+    alloc: Global,
+    library: &[u8],
+    lines: &[&str],
+    status: u8,
+    text: &[u8],
+) -> Result<bool, AllocError> {
+    let log = changed(alloc, lines, 99, 99, b"")?;
+    let (ended, printed) = checked_on(alloc, library, &log, &[])?;
+    Ok(ended == Status(status) && printed.as_slice() == text)
+}
+
 // A limit that was met, a library without an answer, and bounds that the log's cuts don't pass.
 #[test]
 fn other_answers_are_told(rt: HostRuntime) -> Result<(), Fail> {
@@ -184,19 +197,11 @@ fn other_answers_are_told(rt: HostRuntime) -> Result<(), Fail> {
     late[8] = LOG_OF_U[7];
     late[9] = LOG_OF_U[8];
     late[10] = "offer 1 1 c0\n";
-    let rows: [(&[u8], &[&str], u8, &[u8]); 5] = [
-        (P, &met, 0, b"yes nodelimit 3\n"),
-        (U, &LOG_OF_U, 0, b"yes infeasible\n"),
-        (WEIGHED_U, &LOG_OF_U, 8, b"no 13 Cut\n"),
-        (WEIGHED_U, &accepted, 0, b"yes optimal 1\n"),
-        (U, &late, 8, b"no 11 Row\n"),
-    ];
-    for (library, lines, status, text) in rows {
-        let log = changed(alloc, lines, 99, 99, b"")?;
-        let (ended, printed) = checked_on(alloc, library, &log, &[])?;
-        assert_eq!(rt; ended, Status(status));
-        assert_eq!(rt; printed.as_slice(), text);
-    }
+    assert!(rt; says(alloc, P, &met, 0, b"yes nodelimit 3\n")?);
+    assert!(rt; says(alloc, U, &LOG_OF_U, 0, b"yes infeasible\n")?);
+    assert!(rt; says(alloc, WEIGHED_U, &LOG_OF_U, 8, b"no 13 Cut\n")?);
+    assert!(rt; says(alloc, WEIGHED_U, &accepted, 0, b"yes optimal 1\n")?);
+    assert!(rt; says(alloc, U, &late, 8, b"no 11 Row\n")?);
     Ok(())
 }
 
