@@ -1,50 +1,15 @@
 -- The seats of a team.
-use Rattle.std.proofs.Common.{◌≡◌, ◌≢◌, ℕ, zero, suc, ◌+◌, ◌-◌, ◌<◌, ◌≤◌, ◌⊎◌, Bool, true, false, not, cond, List, [], ◌∷◌, ◌++◌, length, Some, refl, sym, ap, subst, ◌∙◌, ne_eqb, eq-eqb, arith}
-use Rattle.std.specs.Prelude.{Contains, All}
+use Rattle.std.proofs.Common.{◌≡◌, ◌≢◌, ℕ, zero, suc, ◌-◌, ◌<◌, ◌≤◌, Bool, false, not, cond, List, [], ◌∷◌, length, Some, refl, sym, ap, subst, ◌∙◌, ne_eqb, eq-eqb, arith}
+use Rattle.std.specs.Prelude.{All}
 use Rattle.rows.specs.Parts.{ProblemParts}
 use Rattle.pool_gate.specs.declared.view.SeatView.{SeatView}
-use Rattle.pool_gate.specs.Views.{down_from, first_of_numbers, numbers_after, without, opened_view, begun, given, parted, fresh, joined}
+use Rattle.pool_gate.specs.Views.{down_from, first_of_numbers, numbers_after, without, opened_view, parted, fresh, joined}
 use Rattle.node_pool.specs.Parts.{PoolParts}
 use Rattle.node_pool.specs.Topic.{TopicParts, topic_of}
-use Rattle.worker_team.specs.Inner.Turns.{IsTurned}
 use Rattle.worker_team.specs.Inner.Seats.{IsSeatFor, IsFirstSeat, IsBack}
 
-pub same_topic : (a b : TopicParts) → Some a ≡ Some b → a ≡ b
+same_topic : (a b : TopicParts) → Some a ≡ Some b → a ≡ b
 same_topic a b e = cc
-
--- the pool that a worker has in a turn is one for its problem, and the worker is one of its team
-module _ (problem : ProblemParts) (view : SeatView TopicParts) (pool : PoolParts) (seat : IsSeatFor problem view) (about : view.about ≡ Some (topic_of pool)) where
-  topic_is : seat.topic ≡ topic_of pool
-  topic_is = same_topic seat.topic (topic_of pool) (sym seat.about ∙ about)
-
-  pub problem_in_hand : pool.problem ≡ problem
-  problem_in_hand = ap (λ (t : TopicParts). t.problem) (sym topic_is) ∙ seat.problem_is
-
-  pub worker_in_team : view.number < pool.workers
-  worker_in_team = subst (λ (t : TopicParts). view.number < t.workers) topic_is seat.worker
-
--- a turn of a seat, at whose end the pool may be given back
-module _ (old turned : SeatView TopicParts) (odds : List ℕ) (pool after : PoolParts) (took : turned ≡ begun (record old { found = old.found ++ odds }) (length pool.history)) where
-  pub number_stays : turned.number ≡ old.number
-  number_stays = ap (λ v. v.number) took
-
-  pub has_turn : turned.in_turn ≡ true
-  has_turn = ap (λ v. v.in_turn) took
-
-  pub gives_about : old.about ≡ Some (topic_of pool) → IsTurned pool after → turned.about ≡ Some (topic_of after)
-  gives_about about turn = ap (λ v. v.about) took ∙ (about ∙ ap Some (sym turn.topic))
-
-  pub gives_count : IsTurned pool after → (length after.history ≡ turned.seen) ⊎ (length after.history ≡ turned.seen + 1)
-  gives_count turn = subst (λ (n : ℕ). (length after.history ≡ n) ⊎ (length after.history ≡ n + 1)) (sym (ap (λ v. v.seen) took)) turn.count
-
-  pub comes_back : (new : SeatView TopicParts) → new ≡ given turned (length after.history) → IsBack old new
-  comes_back new gave = record {
-    number = ap (λ v. v.number) gave ∙ ap (λ v. v.number) took;
-    spare = ap (λ v. v.spare) gave ∙ ap (λ v. v.spare) took;
-    away = ap (λ v. v.away) gave ∙ ap (λ v. v.away) took;
-    about = ap (λ v. v.about) gave ∙ ap (λ v. v.about) took;
-    free = ap (λ v. v.in_turn) gave;
-  }
 
 -- a seat that came back is a worker's still
 pub still_seat : (problem : ProblemParts) (old new : SeatView TopicParts) → IsSeatFor problem old → IsBack old new → IsSeatFor problem new
@@ -81,9 +46,6 @@ first_works problem left view first = record {
   free = first.free;
 }
 
-none_spare : (k : ℕ) (spare : List ℕ) → spare ≡ down_from (suc k) → spare ≢ []
-none_spare k spare is none = let e : suc k ∷ down_from k ≡ [] = sym is ∙ none in cc
-
 behind : (k x : ℕ) (xs : List ℕ) → x ≡ suc k → All (λ n. suc k < n) xs → All (λ n. k < n) (x ∷ xs)
 behind k x xs is all zero d short = omega (arith, is)
 behind k x xs is all (suc i) d short = let h = all i d (omega (arith, short)) in omega (arith, h)
@@ -93,10 +55,6 @@ one_less k = omega arith
 
 -- the first seat, of which the greatest number is given out
 module _ (problem : ProblemParts) (view : SeatView TopicParts) where
-  pub has_spare : (left : ℕ) → left ≢ 0 → IsFirstSeat problem left view → view.spare ≢ []
-  has_spare zero some first = absurd (some refl)
-  has_spare (suc k) some first = none_spare k view.spare first.spare
-
   cut_to : (k : ℕ) → IsFirstSeat problem (suc k) view → IsFirstSeat problem k (parted view)
   cut_to k first = record {
     topic = first.topic;
@@ -150,9 +108,6 @@ module _ (problem : ProblemParts) (left : ℕ) (view cut other ours theirs after
 
   away_is : ours.away ≡ left ∷ view.away
   away_is = away ∙ (ap (λ v. v.away) cut_is ∙ ap (λ (n : ℕ). n ∷ view.away) (first_is left view.spare some first.spare))
-
-  pub is_away : Contains ours.away theirs.number
-  is_away = subst (λ (p : List ℕ × ℕ). Contains p.0 p.1) (λ i. (sym away_is i, sym its_number i)) (0, omega arith, refl)
 
   pub all_back : after ≡ joined ours theirs → after.away ≡ view.away
   all_back after_is = ap (λ v. v.away) after_is ∙ ((λ i. without (its_number i) (away_is i)) ∙ rejoined left view.away first.away)

@@ -9,8 +9,9 @@
 //! `solve_team` is the search of 1 to 64 workers, each in a thread of its own, over one pool behind
 //! a gate. In a turn a worker has the pool in hand: it enters what it brings, where its ticket still
 //! fits, and else takes work. It does the work between two turns, with a copy of the cuts, and rests
-//! on nothing that an earlier turn showed. What a team leaves is what one worker leaves, whoever got
-//! which node. It may wait. `laws` says that any two finished searches of a problem agree.
+//! on nothing that an earlier turn showed. What a team leaves keeps the same promises, whoever got
+//! which node, for its own numbers of workers and analysts. It may wait. `laws` says that any two
+//! finished searches of a problem agree.
 //!
 //! It stands on `node_pool` and `pool_gate`, on `branch_worker` for the nodes and on `analyst` for
 //! the candidates.

@@ -50,7 +50,7 @@ fn take_turn<R: Wait>(
 }
 
 // Takes a turn. Where there is nothing, it takes a second one, and where there is nothing still, it
-// sleeps until somebody has entered something since.
+// sleeps until somebody has entered something since, or has ended.
 fn turn_or_sleep<R: Wait>(
     rt: &R,
     gate: &Gate<Pool>,
