@@ -14,7 +14,7 @@ use crate::status::Status;
 use crate::verdict::{no_text, yes_text};
 use arch_model::Memory;
 use binary_program::problem_of;
-use log_checker::{CheckError, No, TEXT_BYTES, TextChecker};
+use log_checker::{CheckError, LOG_BYTES, No, TextChecker};
 use outside::{Failed, Shelf, Sink};
 use rows::{Problem, variable_count};
 use search_core::Answer;
@@ -88,7 +88,7 @@ fn feed_piece<F: Shelf>(
     ensures writes_stay { Stay (F.write_faults shelf.old) (F.write_faults shelf.new) }
 {
     let place = reader.bytes();
-    let left = (TEXT_BYTES + 1 - place) as usize;
+    let left = (LOG_BYTES + 1 - place) as usize;
     let room = piece.len().min(left);
     let into = &mut piece[..room];
     let count = shelf.read_at(name, place, into)?;

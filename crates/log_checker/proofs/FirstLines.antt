@@ -11,12 +11,12 @@ use Rattle.proof_log.specs.Log.{LOG_BYTES, Accepts}
 use Rattle.proof_log.proofs.WholeLogs.{no_feed, free_of_feeds, cut_at_feed, line_feed, nothing_is_ended}
 use Rattle.log_checker.specs.Phase.{Phase, Begun, IsClosedWith}
 use Rattle.log_checker.specs.Feeding.{LineLeads, LinesLead}
-use Rattle.log_checker.specs.Text.{LINE_FEED, HasNoFeed, bytes_of, IsMadeOf, HasLine, WholeBreaks, RestBreaks, FirstBrokenLine}
+use Rattle.log_checker.specs.Text.{LINE_FEED, HasNoLineFeed, bytes_of, IsMadeOf, HasLine, WholeBreaks, RestBreaks, FirstBrokenLine}
 use Rattle.log_checker.proofs.LineLaws.{passes, agree, line_leads_to_one, one_first_rule, line_leads_unbroken}
 use Rattle.log_checker.proofs.PassingTexts.{passing_lines}
 use Rattle.log_checker.proofs.ReadTexts.{begins}
 
-free : (line : List ℕ) → HasNoFeed line → no_feed line ≡ true
+free : (line : List ℕ) → HasNoLineFeed line → no_feed line ≡ true
 free line none = free_of_feeds line (recursion_from_All (λ b. b ≡ LINE_FEED → ⊥) line none)
 
 -- a line that leads on has no line feed
@@ -26,23 +26,23 @@ leads_free problem old new line x =
     subst P (sym x.says.text) (line_feed (log_line x.said) x.says.readable.0.0)
 
 -- bytes without a line feed, by the one way to say it and the other
-feeds_none : (line : List ℕ) → no_feed line ≡ true → HasNoFeed line
+feeds_none : (line : List ℕ) → no_feed line ≡ true → HasNoLineFeed line
 feeds_none line e = ⊎_elim
     (λ (h : (front : List ℕ) × HasLine line front).
     let whole : line ++ (10 ∷ []) ≡ h.0 ++ (10 ∷ (h.1.more ++ (10 ∷ []))) =
     ap (λ (l : List ℕ). l ++ (10 ∷ [])) h.1.parts ∙ append_assoc (ended h.0) h.1.more (10 ∷ []) ∙ append_assoc h.0 (codes "\n") (h.1.more ++ (10 ∷ [])) in
     let same : line ≡ h.0 = (cut_at_feed line h.0 [] (h.1.more ++ (10 ∷ [])) e (free h.0 h.1.one) whole).0 in
     absurd (omega (arith, ap length same, ap length h.1.parts, length-append (ended h.0) h.1.more, length-append h.0 (codes "\n"))))
-    (λ (none : HasNoFeed line). none)
+    (λ (none : HasNoLineFeed line). none)
     (begins line)
 
-lines_free : (problem : ProblemParts) (old new : Phase) (fed : List (List ℕ)) → LinesLead problem old fed new → AllByRecursion HasNoFeed fed
+lines_free : (problem : ProblemParts) (old new : Phase) (fed : List (List ℕ)) → LinesLead problem old fed new → AllByRecursion HasNoLineFeed fed
 lines_free problem old new [] leads = tt
 lines_free problem old new (line ∷ fed) leads = (feeds_none line (leads_free problem old leads.0 line leads.1), lines_free problem leads.0 new fed leads.2)
 
 -- no line that leads on has a line feed
-pub lines_have_none : (problem : ProblemParts) (old new : Phase) (fed : List (List ℕ)) → LinesLead problem old fed new → All HasNoFeed fed
-lines_have_none problem old new fed leads = All-from_recursion HasNoFeed fed (lines_free problem old new fed leads)
+pub lines_have_none : (problem : ProblemParts) (old new : Phase) (fed : List (List ℕ)) → LinesLead problem old fed new → All HasNoLineFeed fed
+lines_have_none problem old new fed leads = All-from_recursion HasNoLineFeed fed (lines_free problem old new fed leads)
 
 -- a text that passes is made of whole lines
 pub passing_is_whole : (problem : ProblemParts) (text : List ℕ) (answer : Answer) → Accepts problem text answer → (lines : List (List ℕ)) × IsMadeOf text lines
@@ -55,7 +55,7 @@ feed_inside : (line more : List ℕ) → AllByRecursion (λ b. b ≡ LINE_FEED �
 feed_inside [] more none = none.0 refl
 feed_inside (b ∷ line) more none = feed_inside line more none.1
 
-not_free : (rest line more : List ℕ) → rest ≡ ended line ++ more → HasNoFeed rest → ⊥
+not_free : (rest line more : List ℕ) → rest ≡ ended line ++ more → HasNoLineFeed rest → ⊥
 not_free rest line more parts none =
     let P : List ℕ → Type 0 = AllByRecursion (λ b. b ≡ LINE_FEED → ⊥) in
     feed_inside line more (subst P (parts ∙ append_assoc line (codes "\n") more) (recursion_from_All (λ b. b ≡ LINE_FEED → ⊥) rest none))

@@ -2,7 +2,6 @@
 use Rattle.std.proofs.Common.{◌≡◌, ℕ, List, refl, sym, ap, subst, ◌∙◌, inl, inr}
 use Rattle.rows.specs.Parts.{ProblemParts}
 use Rattle.search_core.specs.declared.rule.Rule.{Rule}
-use Rattle.search_core.specs.declared.entry.Entry.{Entry}
 use Rattle.search_core.specs.State.{SearchState}
 use Rattle.search_core.specs.Step.{Step}
 use Rattle.search_core.specs.Rules.{Breaks}

@@ -7,7 +7,7 @@ use Rattle.std.proofs.lemmas.List.Elements.{All-nil, All-from_get_or}
 use Rattle.std.proofs.lemmas.List.Quantifiers.{position-Some}
 use Rattle.std.proofs.lemmas.List.Sums.{fails_before_first}
 use Rattle.std.proofs.Math.Seq.{take-append-add, drop-cons}
-use Rattle.log_checker.specs.Text.{LINE_FEED, HasNoFeed}
+use Rattle.log_checker.specs.Text.{LINE_FEED, HasNoLineFeed}
 
 -- ---- fronts
 
@@ -41,13 +41,13 @@ front_more n xs ys =
 abbrev IsOther : ℕ → Type 0
 IsOther b = b ≡ LINE_FEED → ⊥
 
-pub no_feeds : HasNoFeed []
+pub no_feeds : HasNoLineFeed []
 no_feeds = All-nil IsOther
 
 -- a list has no line feed up to this place, where its first one stands
 pub record IsFirstFeed (bytes : List ℕ) (i : ℕ) : Type 0 where
   pub within : i < length bytes
-  pub free : HasNoFeed (take i bytes)
+  pub free : HasNoLineFeed (take i bytes)
   pub parts : bytes ≡ take i bytes ++ (LINE_FEED ∷ drop (i + 1) bytes)
 
 other : (b : ℕ) → eqb b LINE_FEED ≡ false → IsOther b
@@ -71,7 +71,7 @@ nothing_found : (n long : ℕ) (b : Bool) → ltb n long ≡ b → cond (ltb n l
 nothing_found n long true e missing = absurd (let found : cond (ltb n long) (Some n) None ≡ Some n = ap (λ c. cond c (Some n) None) e in cc)
 nothing_found n long false e missing = ltb-false n long e
 
-pub feed_missing : (bytes : List ℕ) → position (λ b. eqb b LINE_FEED) bytes ≡ None → HasNoFeed bytes
+pub feed_missing : (bytes : List ℕ) → position (λ b. eqb b LINE_FEED) bytes ≡ None → HasNoLineFeed bytes
 feed_missing bytes missing =
     let p : ℕ → Bool = λ b. eqb b LINE_FEED in
     let n : ℕ = position_or_len p bytes in

@@ -17,7 +17,7 @@ use Rattle.proof_log.proofs.WholeLogs.{nothing_is_ended}
 use Rattle.log_checker.specs.Phase.{Phase, Begun, next_line, IsClosedWith}
 use Rattle.log_checker.specs.Feeding.{LineLeads, LinesLead}
 use Rattle.log_checker.specs.Breaking.{LineBreaks}
-use Rattle.log_checker.specs.Text.{LINE_FEED, HasNoFeed, bytes_of, HasLine, BreaksWhole, BreaksTail, HasRead, RestBreaks, FirstBrokenLine}
+use Rattle.log_checker.specs.Text.{LINE_FEED, HasNoLineFeed, bytes_of, HasLine, BreaksWhole, BreaksTail, HasRead, RestBreaks, FirstBrokenLine}
 use Rattle.log_checker.proofs.PassingTexts.{lines_pass}
 
 -- lines that lead on, and then one more
@@ -43,20 +43,20 @@ next_number n before same few = omega (arith, same, few, lines_few before)
 -- ---- the next line of a text
 
 -- one more byte
-free_more : (b : ℕ) (bytes : List ℕ) → (b ≡ LINE_FEED → ⊥) → HasNoFeed bytes → HasNoFeed (b ∷ bytes)
+free_more : (b : ℕ) (bytes : List ℕ) → (b ≡ LINE_FEED → ⊥) → HasNoLineFeed bytes → HasNoLineFeed (b ∷ bytes)
 free_more b bytes other none = All-from_recursion (λ b. b ≡ LINE_FEED → ⊥) (b ∷ bytes) (other, recursion_from_All (λ b. b ≡ LINE_FEED → ⊥) bytes none)
 
-none_free : HasNoFeed []
+none_free : HasNoLineFeed []
 none_free = All-from_recursion (λ b. b ≡ LINE_FEED → ⊥) [] tt
 
 -- a text begins with a whole line, or has no line feed
-pub begins : (bytes : List ℕ) → ((line : List ℕ) × HasLine bytes line) ⊎ HasNoFeed bytes
+pub begins : (bytes : List ℕ) → ((line : List ℕ) × HasLine bytes line) ⊎ HasNoLineFeed bytes
 begins [] = inr none_free
 begins (b ∷ bytes) = ⊎_elim
     (λ (e : b ≡ LINE_FEED). inl ([], record { one = none_free; more = bytes; parts = λ i. e i ∷ bytes }))
     (λ (other : b ≡ LINE_FEED → ⊥). ⊎_elim
     (λ (h : (line : List ℕ) × HasLine bytes line). inl (b ∷ h.0, record { one = free_more b h.0 other h.1.one; more = h.1.more; parts = λ i. b ∷ h.1.parts i }))
-    (λ (none : HasNoFeed bytes). inr (free_more b bytes other none))
+    (λ (none : HasNoLineFeed bytes). inr (free_more b bytes other none))
     (begins bytes))
     (cases_eq b LINE_FEED)
 
@@ -90,11 +90,11 @@ module _ (problem : ProblemParts) (phase : Phase) (start : ℕ) where
   long_breaks rest line next fits long = fed_breaks rest line rule.TooLong next fits (inl (record { fault = TooLong; first = long; named = refl }))
 
   -- a last line of more bytes than are read
-  pub long_tail : (rest : List ℕ) → HasNoFeed rest → start + length rest ≤ LOG_BYTES → LINE_BYTES < length rest → RestBreaks problem phase start rest rule.TooLong
+  pub long_tail : (rest : List ℕ) → HasNoLineFeed rest → start + length rest ≤ LOG_BYTES → LINE_BYTES < length rest → RestBreaks problem phase start rest rule.TooLong
   long_tail rest none fits long = tail_breaks rest rule.TooLong (omega (arith, long)) (record { none = none; first = inr (fits, inl ((λ short. omega (arith, short, long)), refl)) })
 
   -- a last line that is no longer
-  pub short_tail : (rest : List ℕ) → 1 ≤ length rest → HasNoFeed rest → start + length rest ≤ LOG_BYTES → length rest ≤ LINE_BYTES → RestBreaks problem phase start rest rule.End
+  pub short_tail : (rest : List ℕ) → 1 ≤ length rest → HasNoLineFeed rest → start + length rest ≤ LOG_BYTES → length rest ≤ LINE_BYTES → RestBreaks problem phase start rest rule.End
   short_tail rest some none fits short = tail_breaks rest rule.End some (record { none = none; first = inr (fits, inr (short, refl)) })
 
   -- a whole line that has a byte past those that a log may have
@@ -102,13 +102,13 @@ module _ (problem : ProblemParts) (phase : Phase) (start : ℕ) where
   line_too_large rest line next large = whole_breaks rest rule.TooLarge (record { line = line; next = next; first = inl ((λ fits. omega (arith, fits, large)), refl) })
 
   -- the first bytes of a line, which go past those that a log may have, wherever it ends
-  pub front_too_large : (rest front more : List ℕ) → rest ≡ front ++ more → HasNoFeed front → 1 ≤ length front → LOG_BYTES < start + length front → RestBreaks problem phase start rest rule.TooLarge
+  pub front_too_large : (rest front more : List ℕ) → rest ≡ front ++ more → HasNoLineFeed front → 1 ≤ length front → LOG_BYTES < start + length front → RestBreaks problem phase start rest rule.TooLarge
   front_too_large rest front more parts none some large = ⊎_elim
       (λ (h : (line : List ℕ) × HasLine rest line).
       let same : front ++ more ≡ h.0 ++ (10 ∷ h.1.more) = sym parts ∙ h.1.parts ∙ append_assoc h.0 (codes "\n") h.1.more in
       let within = within_line front more h.0 h.1.more (recursion_from_All (λ b. b ≡ LINE_FEED → ⊥) front none) same in
       line_too_large rest h.0 h.1 (omega (arith, large, within, length-append h.0 (codes "\n"))))
-      (λ (free : HasNoFeed rest). tail_breaks rest rule.TooLarge (omega (arith, some, ap length parts, length-append front more)) (record {
+      (λ (free : HasNoLineFeed rest). tail_breaks rest rule.TooLarge (omega (arith, some, ap length parts, length-append front more)) (record {
         none = free;
         first = inl ((λ fits. omega (arith, fits, large, ap length parts, length-append front more)), refl);
       }))

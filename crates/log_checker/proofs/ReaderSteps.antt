@@ -15,7 +15,7 @@ use Rattle.log_checker.specs.Phase.{CheckerParts, next_line, IsUnclosed}
 use Rattle.log_checker.specs.Feeding.{LineLeads}
 use Rattle.log_checker.specs.Breaking.{LineBreaks}
 use Rattle.log_checker.specs.Refused.{NamesRule, NamesLine}
-use Rattle.log_checker.specs.Text.{LINE_FEED, HasNoFeed, FirstBrokenLine}
+use Rattle.log_checker.specs.Text.{LINE_FEED, HasNoLineFeed, FirstBrokenLine}
 use Rattle.log_checker.specs.Reading.{TextParts, IsReading, Adds, AddsFront, BreaksBehind}
 use Rattle.log_checker.proofs.NextLines.{IsFirstFeed, no_feeds}
 use Rattle.log_checker.proofs.TextPieces.{front_leads, front_breaks, line_added, line_broken, none_left, end_missing}
@@ -94,7 +94,7 @@ front_more_behind old new x y front = record {
 
 module _ (old : TextParts) (checker : CheckerParts) (is_checker : checker ≡ old.checker) where
   -- all of whose bytes come at once
-  pub end_line_adds : (new : TextParts) (line : List ℕ) → HasNoFeed line → old.bytes + (length line + 1) ≤ LOG_BYTES → old.kept ≡ [] → LineLeads checker.problem checker.phase line new.checker.phase
+  pub end_line_adds : (new : TextParts) (line : List ℕ) → HasNoLineFeed line → old.bytes + (length line + 1) ≤ LOG_BYTES → old.kept ≡ [] → LineLeads checker.problem checker.phase line new.checker.phase
       → new.checker.problem ≡ checker.problem → new.checker.lines ≡ next_line checker.lines → new.kept ≡ [] → new.bytes ≡ old.bytes + (length line + 1) → Adds old (line ++ LINE_FEED ∷ []) new
   end_line_adds new line none fits empty leads same counted kept bytes text x =
       let P : CheckerParts → Type 0 = λ c. LineLeads c.problem c.phase line new.checker.phase in
@@ -102,7 +102,7 @@ module _ (old : TextParts) (checker : CheckerParts) (is_checker : checker ≡ ol
       line_added old text x new line none fits (subst Q (sym (none_left old text x empty)) (subst P is_checker leads))
       (same ∙ ap (λ (c : CheckerParts). c.problem) is_checker) (counted ∙ ap (λ (c : CheckerParts). next_line c.lines) is_checker) kept bytes
 
-  pub end_line_breaks : (line : List ℕ) (e : CheckError) → HasNoFeed line → old.bytes + (length line + 1) ≤ LOG_BYTES → old.kept ≡ [] → NamesRule checker line e → NamesLine checker e → BreaksBehind old (line ++ LINE_FEED ∷ []) e
+  pub end_line_breaks : (line : List ℕ) (e : CheckError) → HasNoLineFeed line → old.bytes + (length line + 1) ≤ LOG_BYTES → old.kept ≡ [] → NamesRule checker line e → NamesLine checker e → BreaksBehind old (line ++ LINE_FEED ∷ []) e
   end_line_breaks line error.Memory none fits empty names number = tt
   end_line_breaks line (error.No refused) none fits empty names number = λ text more x.
       let P : CheckerParts → Type 0 = λ c. LineBreaks c.problem c.phase line refused.rule in

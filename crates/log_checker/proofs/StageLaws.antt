@@ -11,7 +11,7 @@ use Rattle.proof_log.specs.declared.log_line.LogLine.{LogLine}
 use Rattle.proof_log.specs.declared.log_line.LogLine.TheVariants as lines
 use Rattle.log_checker.specs.declared.checker.Stage.{Stage}
 use Rattle.log_checker.specs.declared.checker.Stage.TheVariants as stage
-use Rattle.log_checker.specs.Phase.{Phase, Running, Closed, IsUnclosed}
+use Rattle.log_checker.specs.Phase.{Phase, Closed, IsUnclosed}
 use Rattle.log_checker.specs.Feeding.{IsAnswer, Enters, Closes}
 use Rattle.log_checker.specs.Breaking.{IsNoHeader, IsInPlace, SaidBreaks}
 use Rattle.log_checker.specs.Inner.Codes.{phase_of}

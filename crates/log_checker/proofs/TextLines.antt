@@ -10,10 +10,10 @@ use Rattle.proof_log.specs.Log.{IsReadable, lines_text, log_lines, Accepts}
 use Rattle.proof_log.proofs.WholeLogs.{free_of_feeds, cut_at_feed, line_feed, nothing_is_ended}
 use Rattle.log_checker.specs.Phase.{Phase, Begun, Closed, IsClosedWith}
 use Rattle.log_checker.specs.Feeding.{LinesLead}
-use Rattle.log_checker.specs.Text.{LINE_FEED, HasNoFeed, IsMadeOf, bytes_of}
+use Rattle.log_checker.specs.Text.{LINE_FEED, HasNoLineFeed, IsMadeOf, bytes_of}
 use Rattle.log_checker.proofs.PassingTexts.{written, header_leads}
 
-same_split : (fed : List (List ℕ)) (said : List LogLine) → AllByRecursion HasNoFeed fed → AllByRecursion IsReadable said → bytes_of fed ≡ lines_text said → fed ≡ written said
+same_split : (fed : List (List ℕ)) (said : List LogLine) → AllByRecursion HasNoLineFeed fed → AllByRecursion IsReadable said → bytes_of fed ≡ lines_text said → fed ≡ written said
 same_split [] [] none readable same = refl
 same_split [] (x ∷ xs) none readable same = absurd (nothing_is_ended (text_of (log_line x)) (lines_text xs) same)
 same_split (line ∷ rest) [] none readable same = absurd (nothing_is_ended line (bytes_of rest) (sym same))
@@ -29,6 +29,6 @@ pub text_leads : (problem : ProblemParts) (text : List ℕ) (fed : List (List �
     → (phase : Phase) × LinesLead problem Begun fed phase × IsClosedWith answer phase
 text_leads problem text fed answer made x =
     let said : List LogLine = log_lines problem x.limit x.entries answer x.state.branchings (length x.state.cuts) in
-    let fed_are : fed ≡ written said = same_split fed said (recursion_from_All HasNoFeed fed made.feeds) x.readable (sym made.parts ∙ x.text) in
+    let fed_are : fed ≡ written said = same_split fed said (recursion_from_All HasNoLineFeed fed made.feeds) x.readable (sym made.parts ∙ x.text) in
     let Q : List (List ℕ) → Type 0 = λ l. LinesLead problem Begun l (Closed x.state answer) in
     (Closed x.state answer, subst Q (sym fed_are) (header_leads problem x.limit x.entries x.state answer x.legal.few x.legal.steps x.answers x.readable), refl)

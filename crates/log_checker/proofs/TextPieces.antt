@@ -16,7 +16,7 @@ use Rattle.proof_log.specs.Fault.{LineBreaksFirst}
 use Rattle.log_checker.specs.Phase.{CheckerParts, Phase, next_line, IsClosedWith, IsUnclosed}
 use Rattle.log_checker.specs.Feeding.{LineLeads}
 use Rattle.log_checker.specs.Breaking.{rule_of, FailsAlone, FailsThere, LineBreaks}
-use Rattle.log_checker.specs.Text.{LINE_FEED, HasNoFeed, bytes_of, HasLine, RestBreaks, HasRead, FirstBrokenLine}
+use Rattle.log_checker.specs.Text.{LINE_FEED, HasNoLineFeed, bytes_of, HasLine, RestBreaks, HasRead, FirstBrokenLine}
 use Rattle.log_checker.specs.Reading.{TextParts, IsReading}
 use Rattle.log_checker.proofs.NextLines.{whole_front, front_more}
 use Rattle.log_checker.proofs.ReadTexts.{next_number, fed_breaks, long_tail, short_tail, line_too_large, front_too_large, one_more_read, all_read}
@@ -57,7 +57,7 @@ front_breaks problem phase line broken x = ⊎_elim
     subst P (take_all (LINE_BYTES + 1) line (omega (arith, short))) x)
     (cases_lt LINE_BYTES (length line))
 
-both_free : (a b : List ℕ) → HasNoFeed a → HasNoFeed b → HasNoFeed (a ++ b)
+both_free : (a b : List ℕ) → HasNoLineFeed a → HasNoLineFeed b → HasNoLineFeed (a ++ b)
 both_free a b = All-append (λ c. c ≡ LINE_FEED → ⊥) a b
 
 -- bytes and a line feed, behind a tail
@@ -89,7 +89,7 @@ module _ (old : TextParts) (text : List ℕ) (x : IsReading old text) where
   }
 
   -- more bytes of the unfinished line
-  pub kept_added : (new : TextParts) (part front : List ℕ) → HasNoFeed part → old.bytes + length part ≤ LOG_BYTES → new.checker ≡ old.checker
+  pub kept_added : (new : TextParts) (part front : List ℕ) → HasNoLineFeed part → old.bytes + length part ≤ LOG_BYTES → new.checker ≡ old.checker
       → front ≡ take (LINE_BYTES + 1 - length old.kept) part → new.kept ≡ old.kept ++ front → new.bytes ≡ old.bytes + length part → IsReading new (text ++ part)
   kept_added new part front none fits same is kept bytes =
       let P : CheckerParts → Type 0 = λ c. HasRead c.problem (text ++ part) x.lines c.phase (x.tail ++ part) in
@@ -110,11 +110,11 @@ module _ (old : TextParts) (text : List ℕ) (x : IsReading old text) where
   fits_there : (part : List ℕ) → old.bytes + (length part + 1) ≤ LOG_BYTES → length (bytes_of x.lines) + length (ended (x.tail ++ part)) ≤ LOG_BYTES
   fits_there part fits = omega (arith, fits, sizes, length-append (x.tail ++ part) (codes "\n"), length-append x.tail part)
 
-  line_there : (part more : List ℕ) → HasNoFeed part → HasLine (x.tail ++ ((part ++ LINE_FEED ∷ []) ++ more)) (x.tail ++ part)
+  line_there : (part more : List ℕ) → HasNoLineFeed part → HasLine (x.tail ++ ((part ++ LINE_FEED ∷ []) ++ more)) (x.tail ++ part)
   line_there part more none = record { one = both_free x.tail part x.none none; more = more; parts = line_parts x.tail part more }
 
   -- the rest of the unfinished line, and its line feed
-  pub line_added : (new : TextParts) (part : List ℕ) → HasNoFeed part → old.bytes + (length part + 1) ≤ LOG_BYTES → LineLeads old.checker.problem old.checker.phase (x.tail ++ part) new.checker.phase
+  pub line_added : (new : TextParts) (part : List ℕ) → HasNoLineFeed part → old.bytes + (length part + 1) ≤ LOG_BYTES → LineLeads old.checker.problem old.checker.phase (x.tail ++ part) new.checker.phase
       → new.checker.problem ≡ old.checker.problem → new.checker.lines ≡ next_line old.checker.lines → new.kept ≡ [] → new.bytes ≡ old.bytes + (length part + 1) → IsReading new (text ++ (part ++ LINE_FEED ∷ []))
   line_added new part none fits leads same counted kept bytes =
       let line : List ℕ = x.tail ++ part in
@@ -133,7 +133,7 @@ module _ (old : TextParts) (text : List ℕ) (x : IsReading old text) where
       }
 
   -- the line that is ended here breaks a rule
-  pub line_broken : (part more : List ℕ) (number : ℕ) (broken : Rule) → HasNoFeed part → old.bytes + (length part + 1) ≤ LOG_BYTES → number ≡ next_line old.checker.lines
+  pub line_broken : (part more : List ℕ) (number : ℕ) (broken : Rule) → HasNoLineFeed part → old.bytes + (length part + 1) ≤ LOG_BYTES → number ≡ next_line old.checker.lines
       → LineBreaks old.checker.problem old.checker.phase (x.tail ++ part) broken → FirstBrokenLine old.checker.problem (text ++ (part ++ LINE_FEED ∷ []) ++ more) number broken
   line_broken part more number broken none fits is breaks =
       let rest : List ℕ = (part ++ LINE_FEED ∷ []) ++ more in
@@ -141,7 +141,7 @@ module _ (old : TextParts) (text : List ℕ) (x : IsReading old text) where
       subst P (sym (append_assoc text (part ++ LINE_FEED ∷ []) more)) (broken_behind rest number broken is (fed_breaks old.checker.problem old.checker.phase (length (bytes_of x.lines)) (x.tail ++ rest) (x.tail ++ part) broken (line_there part more none) (fits_there part fits) breaks))
 
   -- the line feed of the line stands past the longest log
-  pub line_past : (part more : List ℕ) (number : ℕ) → HasNoFeed part → LOG_BYTES < old.bytes + (length part + 1) → number ≡ next_line old.checker.lines
+  pub line_past : (part more : List ℕ) (number : ℕ) → HasNoLineFeed part → LOG_BYTES < old.bytes + (length part + 1) → number ≡ next_line old.checker.lines
       → FirstBrokenLine old.checker.problem (text ++ (part ++ LINE_FEED ∷ []) ++ more) number rule.TooLarge
   line_past part more number none past is =
       let rest : List ℕ = (part ++ LINE_FEED ∷ []) ++ more in
@@ -150,7 +150,7 @@ module _ (old : TextParts) (text : List ℕ) (x : IsReading old text) where
       subst P (sym (append_assoc text (part ++ LINE_FEED ∷ []) more)) (broken_behind rest number rule.TooLarge is (line_too_large old.checker.problem old.checker.phase (length (bytes_of x.lines)) (x.tail ++ rest) (x.tail ++ part) (line_there part more none) far))
 
   -- a byte of the unfinished line stands past the longest log, whatever comes behind
-  pub part_past : (part more : List ℕ) (number : ℕ) → HasNoFeed part → LOG_BYTES < old.bytes + length part → number ≡ next_line old.checker.lines → FirstBrokenLine old.checker.problem (text ++ part ++ more) number rule.TooLarge
+  pub part_past : (part more : List ℕ) (number : ℕ) → HasNoLineFeed part → LOG_BYTES < old.bytes + length part → number ≡ next_line old.checker.lines → FirstBrokenLine old.checker.problem (text ++ part ++ more) number rule.TooLarge
   part_past part more number none past is =
       let P : List ℕ → Type 0 = λ l. FirstBrokenLine old.checker.problem l number rule.TooLarge in
       let far : LOG_BYTES < length (bytes_of x.lines) + length (x.tail ++ part) = omega (arith, past, sizes, length-append x.tail part) in

@@ -1,5 +1,5 @@
 -- A text passes or has a first broken line: it can't be that it does neither.
-use Rattle.std.proofs.Common.{◌⊎◌, ℕ, zero, suc, ◌+◌, ◌≤◌, List, [], ◌∷◌, ◌++◌, length, codes, refl, sym, ap, subst, arith, inl, inr, ⊎_elim}
+use Rattle.std.proofs.Common.{ℕ, zero, suc, ◌+◌, ◌≤◌, List, [], ◌∷◌, ◌++◌, length, codes, refl, sym, ap, subst, arith, inl, inr, ⊎_elim}
 use Rattle.std.proofs.lemmas.List.{length-append}
 use Rattle.arch_model.specs.Library.{IsLibrary}
 use Rattle.rows.specs.Parts.{ProblemParts}
@@ -18,7 +18,7 @@ use Rattle.proof_log.proofs.FirstFaults.{none_unless_first}
 use Rattle.log_checker.specs.Phase.{Phase, Begun, Versioned, Sized, Running, Closed, IsPhaseOf, IsUnclosed}
 use Rattle.log_checker.specs.Feeding.{Leads, LineLeads}
 use Rattle.log_checker.specs.Breaking.{rule_of, IsInPlace, PlacedBreaks, SaidBreaks, LineBreaks}
-use Rattle.log_checker.specs.Text.{HasNoFeed, bytes_of, HasLine, WholeBreaks, TailBreaks, HasRead, FirstBrokenLine}
+use Rattle.log_checker.specs.Text.{HasNoLineFeed, bytes_of, HasLine, WholeBreaks, TailBreaks, HasRead, FirstBrokenLine}
 use Rattle.log_checker.proofs.SaidLines.{says_something}
 use Rattle.log_checker.proofs.EntriesJudged.{ask, entry_is_judged}
 use Rattle.log_checker.proofs.ReadTexts.{begins, none_read, one_more_read, all_read, broken_there}
@@ -66,7 +66,7 @@ module _ (problem : ProblemParts) (its_library : IsLibrary problem.library) (its
   ends before (Closed state answer) read = never answer (all_read problem text before (Closed state answer) answer read refl)
 
   -- a last line with no line feed breaks a rule
-  tail_is_judged : (before : List (List ℕ)) (phase : Phase) (b : ℕ) (rest : List ℕ) → HasRead problem text before phase (b ∷ rest) → HasNoFeed (b ∷ rest) → ⊥
+  tail_is_judged : (before : List (List ℕ)) (phase : Phase) (b : ℕ) (rest : List ℕ) → HasRead problem text before phase (b ∷ rest) → HasNoLineFeed (b ∷ rest) → ⊥
   tail_is_judged before phase b rest read none =
       let tail_unbroken : (r : Rule) → TailBreaks (length (bytes_of before)) (b ∷ rest) r → ⊥ = λ r x. unbroken (length before + 1) r (broken_there problem text before phase (b ∷ rest) r read (inr (record { none = none; first = x }))) in
       ask tail_unbroken (λ fits unbroken. ask unbroken (λ short unbroken. unbroken rule.End refl))
@@ -81,7 +81,7 @@ module _ (problem : ProblemParts) (its_library : IsLibrary problem.library) (its
       let less : length h.1.more ≤ most = omega (arith, le, ap length h.1.parts, length-append (ended h.0) h.1.more, length-append h.0 (codes "\n")) in
       ask whole_unbroken (λ fits unbroken. line_is_judged problem its_library its phase h.0 kept unbroken (λ new leads kept.
       rest_is_judged most (before ++ h.0 ∷ []) new h.1.more less (one_more_read problem text before phase new (b ∷ rest) h.0 read h.1 fits leads) kept)))
-      (λ (none : HasNoFeed (b ∷ rest)). tail_is_judged before phase b rest read none)
+      (λ (none : HasNoLineFeed (b ∷ rest)). tail_is_judged before phase b rest read none)
       (begins (b ∷ rest))
 
   -- a text passes, or has a first broken line

@@ -1,5 +1,5 @@
 -- Worked rows: lines of the log of the search for the best of two components that lead on, and two that are refused.
-use Rattle.std.proofs.Common.{◌≡◌, ℕ, ◌^◌, ◌≤◌, ◌<◌, lit≤, lit<, codes, refl, sym, ◌∙◌, arith, inl, inr}
+use Rattle.std.proofs.Common.{◌≡◌, ℕ, ◌^◌, ◌≤◌, lit≤, lit<, codes, refl, sym, ◌∙◌, arith, inl, inr}
 use Rattle.std.specs.Fmt.{digits}
 use Rattle.search_core.specs.declared.rule.Rule.TheVariants as rule
 use Rattle.search_core.specs.declared.answer.Answer.TheVariants.{Optimal}

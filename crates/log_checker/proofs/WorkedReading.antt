@@ -1,5 +1,5 @@
 -- A worked row: a text of which a line and two bytes of the next were read.
-use Rattle.std.proofs.Common.{ℕ, lit≤, List, [], ◌∷◌, codes, refl}
+use Rattle.std.proofs.Common.{lit≤, [], ◌∷◌, codes, refl}
 use Rattle.search_core.proofs.WorkedRows.{problem_p}
 use Rattle.log_checker.specs.Phase.{Versioned}
 use Rattle.log_checker.specs.Reading.{TextParts, IsReading}

@@ -1,5 +1,5 @@
 -- Worked rows: the first broken line of short texts, and the last limit that a log states.
-use Rattle.std.proofs.Common.{◌≡◌, ℕ, ◌≤◌, nat_eq, false, lit≤, List, [], ◌∷◌, codes, Some, refl, inl, inr}
+use Rattle.std.proofs.Common.{◌≡◌, ℕ, nat_eq, false, lit≤, List, [], ◌∷◌, codes, Some, refl, inl, inr}
 use Rattle.std.specs.List.{AllByRecursion}
 use Rattle.std.proofs.lemmas.Bool.{eqb-false}
 use Rattle.std.proofs.lemmas.List.Elements.{All-from_recursion}
@@ -10,12 +10,12 @@ use Rattle.search_core.proofs.WorkedRows.{problem_p}
 use Rattle.proof_log.specs.declared.log_line.LogLine.TheVariants as lines
 use Rattle.log_checker.specs.Phase.{Begun, Versioned}
 use Rattle.log_checker.specs.Feeding.{LineLeads}
-use Rattle.log_checker.specs.Text.{LINE_FEED, HasNoFeed, IsMadeOf, HasRead, FirstBrokenLine}
+use Rattle.log_checker.specs.Text.{LINE_FEED, HasNoLineFeed, IsMadeOf, HasRead, FirstBrokenLine}
 use Rattle.log_checker.specs.Yes.{last_limit}
 use Rattle.log_checker.proofs.ReadTexts.{none_read, broken_there}
 use Rattle.log_checker.proofs.WorkedLines.{sizes_break}
 
-pub none_feeds : (bytes : List ℕ) → AllByRecursion (λ b. nat_eq b LINE_FEED ≡ false) bytes → HasNoFeed bytes
+pub none_feeds : (bytes : List ℕ) → AllByRecursion (λ b. nat_eq b LINE_FEED ≡ false) bytes → HasNoLineFeed bytes
 none_feeds bytes others = All-from_recursion (λ b. b ≡ LINE_FEED → ⊥) bytes (each bytes others)
   where
     each : (bs : List ℕ) → AllByRecursion (λ b. nat_eq b LINE_FEED ≡ false) bs → AllByRecursion (λ b. b ≡ LINE_FEED → ⊥) bs
@@ -53,7 +53,7 @@ second_line_breaks =
 
 -- a text of two lines
 two_lines : IsMadeOf (codes "a\nb\n") (codes "a" ∷ codes "b" ∷ [])
-two_lines = record { feeds = All-from_recursion HasNoFeed (codes "a" ∷ codes "b" ∷ []) (none_feeds (codes "a") (refl, tt), (none_feeds (codes "b") (refl, tt), tt)); parts = refl }
+two_lines = record { feeds = All-from_recursion HasNoLineFeed (codes "a" ∷ codes "b" ∷ []) (none_feeds (codes "a") (refl, tt), (none_feeds (codes "b") (refl, tt), tt)); parts = refl }
 
 -- the last limit is the one of a Reopen
 reopened_limit : last_limit 1 (Park 0 1 ∷ Reopen 4 ∷ Take 0 1 0 (Some 3) ∷ []) ≡ 4

@@ -5,7 +5,7 @@ use Rattle.proof_log.specs.Log.{LOG_BYTES}
 use Rattle.log_checker.specs.declared.error.CheckError.{CheckError}
 use Rattle.log_checker.specs.declared.error.CheckError.TheVariants.{Memory, No}
 use Rattle.log_checker.specs.Phase.{CheckerParts}
-use Rattle.log_checker.specs.Text.{HasNoFeed, HasRead, FirstBrokenLine}
+use Rattle.log_checker.specs.Text.{HasNoLineFeed, HasRead, FirstBrokenLine}
 
 -- what contracts see of a checker of a text: the checker of its lines, the front that is kept of an unfinished line, and how many bytes were read
 pub record TextParts : Type 0 where
@@ -18,7 +18,7 @@ pub record IsReading (reader : TextParts) (text : List ℕ) : Type 0 where
   pub lines : List (List ℕ)
   pub tail : List ℕ
   pub read : HasRead reader.checker.problem text lines reader.checker.phase tail
-  pub none : HasNoFeed tail
+  pub none : HasNoLineFeed tail
   pub few : length text ≤ LOG_BYTES
   pub counted : reader.checker.lines ≡ length lines
   pub kept : reader.kept ≡ take (LINE_BYTES + 1) tail

@@ -17,8 +17,8 @@ abbrev pub LINE_FEED : ℕ
 LINE_FEED = 10
 
 -- no line feed stands in these bytes
-abbrev pub HasNoFeed : List ℕ → Type 0
-HasNoFeed bytes = All (λ b. b ≡ LINE_FEED → ⊥) bytes
+abbrev pub HasNoLineFeed : List ℕ → Type 0
+HasNoLineFeed bytes = All (λ b. b ≡ LINE_FEED → ⊥) bytes
 
 -- the bytes of some lines, each ended by a line feed
 abbrev pub bytes_of : List (List ℕ) → List ℕ
@@ -26,12 +26,12 @@ bytes_of lines = flat_map ended lines
 
 -- a text is these whole lines and nothing more
 pub record IsMadeOf (text : List ℕ) (lines : List (List ℕ)) : Type 0 where
-  pub feeds : All HasNoFeed lines
+  pub feeds : All HasNoLineFeed lines
   pub parts : text ≡ bytes_of lines
 
 -- a text begins with this line and its line feed
 pub record HasLine (text line : List ℕ) : Type 0 where
-  pub one : HasNoFeed line
+  pub one : HasNoLineFeed line
   pub more : List ℕ
   pub parts : text ≡ ended line ++ more
 
@@ -51,7 +51,7 @@ pub record BreaksWhole (problem : ProblemParts) (phase : Phase) (start : ℕ) (r
 
 -- a text's last line has no line feed, and breaks this rule first
 pub record BreaksTail (start : ℕ) (tail : List ℕ) (broken : Rule) : Type 0 where
-  pub none : HasNoFeed tail
+  pub none : HasNoLineFeed tail
   pub first : TailBreaks start tail broken
 
 -- what stands behind some whole lines breaks this rule first: the text ends there before a closing line, or goes on with a whole line, or with a last one that has no line feed
@@ -59,7 +59,7 @@ abbrev pub RestBreaks : ProblemParts → Phase → ℕ → List ℕ → Rule →
 RestBreaks problem phase start [] broken = IsUnclosed phase × (broken ≡ rule.End)
 RestBreaks problem phase start (b ∷ rest) broken = BreaksWhole problem phase start (b ∷ rest) broken ⊎ BreaksTail start (b ∷ rest) broken
 
--- a text begins with some whole lines, none of which breaks a rule: they lead to a phase, and have no byte past 2^32
+-- a text begins with some whole lines, none of which breaks a rule: they lead to a phase, and have no byte past 2^32. None has a line feed within, since what a line says is written without one
 pub record HasRead (problem : ProblemParts) (text : List ℕ) (before : List (List ℕ)) (phase : Phase) (rest : List ℕ) : Type 0 where
   pub parts : text ≡ bytes_of before ++ rest
   pub few : length (bytes_of before) ≤ LOG_BYTES

@@ -30,11 +30,12 @@ pub(crate) enum Stage {
 }
 
 /// What judges a log line by line: its problem, how many lines were fed (up to 2^64 - 1), and how
-/// far they have come. From the third line on that is a state to which the entries' steps lead from
-/// the start under the limit that the third line states; and from the closing line on that state's
-/// answer, too.
+/// far they have come. From the third line on that is a state to which the entries' steps lead
+/// from the start under the limit that the third line states; and from the closing line on that
+/// state's answer, too.
 #[derive(Drop)]
 pub struct Checker {
+    pub(crate) alloc: Global,
     pub(crate) problem: Problem,
     pub(crate) lines: u64,
     pub(crate) stage: Stage,
@@ -73,6 +74,7 @@ impl Checker {
         let state = start(alloc, problem, 0)?;
         let problem = problem.copy()?;
         Ok(Checker {
+            alloc,
             problem,
             lines: 0,
             stage: Stage::Begun,
@@ -91,7 +93,7 @@ impl Checker {
     /// Judges the next line, given without its line feed. No comes exactly where the line breaks a
     /// rule, with the first; else the line leads on, unless memory ran out. After an error the
     /// checker is as it was.
-    pub fn feed(&mut self, alloc: Global, line: &[u8]) -> Result<(), CheckError>
+    pub fn feed(&mut self, line: &[u8]) -> Result<(), CheckError>
         ensures leads { OnOk result
             (LineLeads self.old.problem self.old.phase line.now self.new.phase) }
         ensures counted { OnOk result (self.new.lines ≡ next_line self.old.lines) }
@@ -102,7 +104,7 @@ impl Checker {
         ensures unchanged { OnErr result (self.new ≡ self.old) }
     {
         let number = self.next_line();
-        let said = match read_line(alloc, line) {
+        let said = match read_line(self.alloc, line) {
             Ok(said) => said,
             Err(LineError::Memory) => return Err(CheckError::Memory),
             Err(LineError::Fault(fault)) => {
@@ -112,7 +114,7 @@ impl Checker {
                 }));
             }
         };
-        match self.take(alloc, &said) {
+        match self.take(&said) {
             Ok(()) => {
                 self.lines = number;
                 Ok(())

@@ -51,9 +51,9 @@ pub fn a_text_passes_where_its_lines_lead_to_an_answer()
         → Accepts problem text answer → length text ≤ LOG_BYTES }
 {}
 
-/// A text passes with an answer, or has a first broken line, and never both: there is one such line
-/// then, and one rule that it breaks first. That it can't be neither holds of each problem that the
-/// types admit.
+/// A text passes with an answer, or has a first broken line, and never both: there is one such
+/// line then, and one rule that it breaks first. That it can't be neither holds of each problem
+/// that the types admit.
 pub fn a_text_passes_or_has_one_first_broken_line()
     ensures one_line { (problem : ProblemParts) (text : List ℕ) (m n : ℕ) (a b : Rule)
         → FirstBrokenLine problem text m a → FirstBrokenLine problem text n b → m ≡ n }

@@ -13,9 +13,9 @@
 //! whatever made the log. So who trusts the definitions needn't trust a solver.
 //!
 //! A `TextChecker` judges a log whose bytes come in pieces of any length. It holds a `Checker` and
-//! the front of one line, and is promised by what it has read of a text (`specs/Reading.antt`): each
-//! No names the first broken line of every text that goes on so, whatever comes behind, and the end
-//! is a yes exactly as the definition says.
+//! the front of one line, and is promised by what it has read of a text (`specs/Reading.antt`):
+//! each No names the first broken line of every text that goes on so, whatever comes behind, and
+//! the end is a yes exactly as the definition says.
 //!
 //! It knows of no pool, no workers and no search. It stands on `proof_log` for the lines,
 //! `search_core` for what an entry does, and `sink_weight` for the weights of a candidate, which
@@ -31,7 +31,7 @@ mod weighing;
 
 pub use checker::Checker;
 pub use error::{CheckError, No};
-pub use text::{TEXT_BYTES, TextChecker};
+pub use text::{LOG_BYTES, TextChecker};
 
 #[cfg(test)]
 mod tests;

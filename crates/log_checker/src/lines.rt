@@ -10,7 +10,6 @@ use crate::weighing::weighed_step;
 use proof_log::LogLine;
 use search_core::limits::BRANCHINGS;
 use search_core::{Answer, Entry, Rule, State, StepError, start};
-use std::alloc::Global;
 
 // Where a header line comes whose place isn't this one: after the closing line that is the first
 // rule that it breaks.
@@ -95,7 +94,7 @@ impl Checker {
     }
 
     // Takes the line that states the limit, from which on there is a state.
-    fn limit(&mut self, alloc: Global, limit: u32) -> Result<(), StepError>
+    fn limit(&mut self, limit: u32) -> Result<(), StepError>
         ensures leads { OnOk result
             (Leads self.old.problem self.old.phase (lines.Limit limit) self.new.phase) }
         ensures rest { KeepsTheRest self.old self.new }
@@ -108,7 +107,7 @@ impl Checker {
                 if limit > BRANCHINGS {
                     return Err(StepError::Bad(Rule::Header));
                 }
-                let Ok(state) = start(alloc, &self.problem, limit) else {
+                let Ok(state) = start(self.alloc, &self.problem, limit) else {
                     return Err(StepError::Memory);
                 };
                 self.state = state;
@@ -120,7 +119,7 @@ impl Checker {
     }
 
     // Takes an entry, which is a step from the state.
-    fn enter(&mut self, alloc: Global, entry: &Entry) -> Result<(), StepError>
+    fn enter(&mut self, entry: &Entry) -> Result<(), StepError>
         ensures leads { OnOk result
             (Leads self.old.problem self.old.phase (lines.Entry entry.now) self.new.phase) }
         ensures rest { KeepsTheRest self.old self.new }
@@ -129,7 +128,7 @@ impl Checker {
         ensures unchanged { OnErr result (self.new ≡ self.old) }
     {
         match self.stage {
-            Stage::Running => weighed_step(alloc, &mut self.state, &self.problem, entry),
+            Stage::Running => weighed_step(self.alloc, &mut self.state, &self.problem, entry),
             stage => Err(out_of_place(stage)),
         }
     }
@@ -157,7 +156,7 @@ impl Checker {
     }
 
     // Takes what a line says.
-    pub(crate) fn take(&mut self, alloc: Global, said: &LogLine) -> Result<(), StepError>
+    pub(crate) fn take(&mut self, said: &LogLine) -> Result<(), StepError>
         ensures leads { OnOk result
             (Leads self.old.problem self.old.phase said.now self.new.phase) }
         ensures rest { KeepsTheRest self.old self.new }
@@ -168,8 +167,8 @@ impl Checker {
         match said {
             LogLine::Version => self.version(),
             LogLine::Vars(components, edges) => self.vars(*components, *edges),
-            LogLine::Limit(limit) => self.limit(alloc, *limit),
-            LogLine::Entry(entry) => self.enter(alloc, entry),
+            LogLine::Limit(limit) => self.limit(*limit),
+            LogLine::Entry(entry) => self.enter(entry),
             LogLine::Closing(answer, branchings, cuts) => self.close(*answer, *branchings, *cuts),
         }
     }

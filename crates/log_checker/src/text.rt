@@ -3,7 +3,7 @@ ghost use Rattle.std.specs.Prelude.{◌≡◌, ℕ, ◌+◌, ◌-◌, ◌≤◌,
 ghost use Rattle.std.specs.Prelude.{◌==◌, length, position, IfOk, IfErr, OnOk, OnErr};
 ghost use Rattle.proof_log.specs.Log.{LOG_BYTES, Accepts};
 ghost use Rattle.log_checker.specs.Phase.{next_line};
-ghost use Rattle.log_checker.specs.Text.{LINE_FEED, HasNoFeed, FirstBrokenLine};
+ghost use Rattle.log_checker.specs.Text.{LINE_FEED, HasNoLineFeed, FirstBrokenLine};
 ghost use Rattle.log_checker.specs.Reading.{IsReading, Adds, AddsFront, BreaksBehind};
 
 use crate::checker::Checker;
@@ -16,17 +16,16 @@ use std::alloc::Global;
 use std::marker::Model;
 
 /// The greatest number of bytes of a log.
-pub const TEXT_BYTES: u64 = 4_294_967_296;
+pub const LOG_BYTES: u64 = 4_294_967_296;
 
 /// What judges a log that comes in pieces of any length, whatever lines they cut. It holds the
 /// checker of its lines and, of a line whose line feed hasn't come, as many bytes as tell what it
 /// breaks: up to one more than a line may have.
 #[derive(Drop)]
 pub struct TextChecker {
-    pub(crate) alloc: Global,
     pub(crate) checker: Checker,
     pub(crate) kept: Vec<u8>,
-    // How many bytes came, at most `TEXT_BYTES`.
+    // How many bytes came, at most `LOG_BYTES`.
     pub(crate) bytes: u64,
 }
 
@@ -48,7 +47,7 @@ impl Model for TextChecker {
 }
 
 // The place of the first line feed.
-fn feed_in(bytes: &[u8]) -> Option<usize>
+fn line_feed_in(bytes: &[u8]) -> Option<usize>
     ensures { result ≡ position (λ b. b == LINE_FEED) bytes.now }
 {
     bytes.iter().position(|b| *b == b'\n')
@@ -63,14 +62,13 @@ impl TextChecker {
     {
         let checker = Checker::new(alloc, problem)?;
         Ok(TextChecker {
-            alloc,
             checker,
             kept: Vec::new(alloc),
             bytes: 0,
         })
     }
 
-    /// How many bytes of the log were read, at most `TEXT_BYTES`.
+    /// How many bytes of the log were read, at most `LOG_BYTES`.
     pub fn bytes(&self) -> u64
         ensures bytes { result ≡ self.now.bytes }
         ensures few { self.now.bytes ≤ LOG_BYTES }
@@ -93,7 +91,7 @@ impl TextChecker {
         ensures past { result ≡ true → LOG_BYTES < self.now.bytes + more }
         ensures fits { result ≡ false → self.now.bytes + more ≤ LOG_BYTES }
     {
-        more as u64 > TEXT_BYTES - self.bytes
+        more as u64 > LOG_BYTES - self.bytes
     }
 
     // Whether no line is unfinished.
@@ -121,7 +119,7 @@ impl TextChecker {
 
     // Reads more bytes of an unfinished line.
     fn keep(&mut self, part: &[u8]) -> Result<(), CheckError>
-        requires free { HasNoFeed part.now }
+        requires free { HasNoLineFeed part.now }
         requires fits { self.old.bytes + length part.now ≤ LOG_BYTES }
         ensures adds { OnOk result (Adds self.old part.now self.new) }
         ensures counted { OnOk result (self.new.bytes ≡ self.old.bytes + length part.now) }
@@ -139,7 +137,7 @@ impl TextChecker {
 
     // Reads more bytes, none of which ends a line.
     fn go_on(&mut self, part: &[u8]) -> Result<(), CheckError>
-        requires { HasNoFeed part.now }
+        requires { HasNoLineFeed part.now }
         ensures adds { OnOk result (Adds self.old part.now self.new) }
         ensures no { IfErr result (BreaksBehind self.old part.now) }
         ensures problem { self.new.checker.problem ≡ self.old.checker.problem }
@@ -153,7 +151,7 @@ impl TextChecker {
 
     // Reads the line feed of a line of which no byte was read before.
     fn end_line(&mut self, line: &[u8]) -> Result<(), CheckError>
-        requires free { HasNoFeed line.now }
+        requires free { HasNoLineFeed line.now }
         requires fits { self.old.bytes + (length line.now + 1) ≤ LOG_BYTES }
         requires none { self.old.kept ≡ [] }
         ensures adds { OnOk result (Adds self.old (line.now ++ LINE_FEED ∷ []) self.new) }
@@ -161,7 +159,7 @@ impl TextChecker {
         ensures problem { self.new.checker.problem ≡ self.old.checker.problem }
         ensures unchanged { OnErr result (self.new ≡ self.old) }
     {
-        self.checker.feed(self.alloc, line)?;
+        self.checker.feed(line)?;
         self.bytes += line.len() as u64 + 1;
         Ok(())
     }
@@ -174,7 +172,7 @@ impl TextChecker {
         ensures problem { self.new.checker.problem ≡ self.old.checker.problem }
         ensures unchanged { OnErr result (self.new ≡ self.old) }
     {
-        self.checker.feed(self.alloc, &self.kept)?;
+        self.checker.feed(&self.kept)?;
         self.kept.clear();
         self.bytes += 1;
         Ok(())
@@ -182,7 +180,7 @@ impl TextChecker {
 
     // Reads the rest of a line and its line feed.
     fn end_with(&mut self, part: &[u8]) -> Result<(), CheckError>
-        requires { HasNoFeed part.now }
+        requires { HasNoLineFeed part.now }
         ensures adds { OnOk result (Adds self.old (part.now ++ LINE_FEED ∷ []) self.new) }
         ensures no { IfErr result (BreaksBehind self.old (part.now ++ LINE_FEED ∷ [])) }
         ensures problem { self.new.checker.problem ≡ self.old.checker.problem }
@@ -199,9 +197,10 @@ impl TextChecker {
     }
 
     /// Reads the next bytes of the log. No comes as soon as a line breaks a rule, whatever comes
-    /// behind these bytes, with that line and its first broken rule: so it is told of a line that is
-    /// too long once its line feed comes, or its byte past the longest log. The only other error is
-    /// want of memory. After an error a front of these bytes was read, and nobody knows which.
+    /// behind these bytes, with that line and its first broken rule: so it is told of a line that
+    /// is too long once its line feed comes, or its byte past the longest log. The only other
+    /// error is want of memory. After an error a front of these bytes was read, and `bytes` tells
+    /// how many: it rose by so many.
     pub fn push(&mut self, piece: &[u8]) -> Result<(), CheckError>
         ensures adds { OnOk result (Adds self.old piece.now self.new) }
         ensures no { IfErr result (BreaksBehind self.old piece.now) }
@@ -209,15 +208,15 @@ impl TextChecker {
         ensures front { OnErr result (AddsFront self.old piece.now self.new) }
     {
         let mut rest = piece;
-        while let Some(at) = feed_in(rest) {
+        while let Some(at) = line_feed_in(rest) {
             self.end_with(&rest[..at])?;
             rest = &rest[at + 1..];
         }
         self.go_on(rest)
     }
 
-    /// Ends the log: its answer where it passes, or else its first broken line, with the first rule
-    /// that it breaks. The checker stays as it is.
+    /// Ends the log: its answer where it passes, or else its first broken line, with the first
+    /// rule that it breaks. The checker stays as it is.
     pub fn end(&mut self) -> Result<Answer, No>
         ensures yes { IfOk result (λ answer. (text : List ℕ) → IsReading self.old text
             → Accepts self.old.checker.problem text answer) }

@@ -9,7 +9,7 @@ use Rattle.search_core.specs.declared.stepping.StepError.TheVariants.{Memory, Ba
 use Rattle.search_core.specs.State.{SearchState}
 use Rattle.search_core.specs.Rules.{FirstBroken}
 use Rattle.proof_log.specs.declared.log_line.LogLine.{LogLine}
-use Rattle.log_checker.specs.Phase.{Phase, CheckerParts, Begun, Versioned, Sized, Running, Closed}
+use Rattle.log_checker.specs.Phase.{Phase, CheckerParts}
 use Rattle.log_checker.specs.declared.checker.Stage.{Stage}
 use Rattle.log_checker.specs.declared.checker.Stage.TheVariants as stage
 use Rattle.log_checker.specs.Breaking.{SaidBreaks}

@@ -60,7 +60,7 @@ pub(crate) fn broken(
     checker: &mut Checker,
     line: &[u8],
 ) -> Result<Option<Rule>, Fail> {
-    match checker.feed(rt.alloc(), line) {
+    match checker.feed(line) {
         Ok(()) => Ok(None),
         Err(CheckError::No(no)) => Ok(Some(no.rule)),
         Err(CheckError::Memory) => panic!(rt; "no memory"),
@@ -74,7 +74,7 @@ fn refused(
     lines: &[&str],
 ) -> Result<Option<No>, Fail> {
     for line in lines {
-        match checker.feed(rt.alloc(), line.as_bytes()) {
+        match checker.feed(line.as_bytes()) {
             Ok(()) => {}
             Err(CheckError::No(no)) => return Ok(Some(no)),
             Err(CheckError::Memory) => panic!(rt; "no memory"),
@@ -157,7 +157,7 @@ pub(crate) fn refused_with(
     if let Some(no) = refused(rt, checker, lines)? {
         return Ok(Some(no));
     }
-    match checker.feed(rt.alloc(), line) {
+    match checker.feed(line) {
         Ok(()) => Ok(None),
         Err(CheckError::No(no)) => Ok(Some(no)),
         Err(CheckError::Memory) => panic!(rt; "no memory"),

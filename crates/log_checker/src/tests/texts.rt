@@ -1,7 +1,7 @@
 // Logs that come in pieces.
 use crate::tests::logs::{PASSING_P, PASSING_U, letters};
 use crate::tests::problems::{one_of, one_way};
-use crate::{CheckError, No, TEXT_BYTES, TextChecker};
+use crate::{CheckError, LOG_BYTES, No, TextChecker};
 use arch_model::{Memory, Role};
 use rows::Problem;
 use search_core::{Answer, Rule};
@@ -171,7 +171,7 @@ fn a_long_line_is_not_judged_before_its_end(rt: HostRuntime) -> Result<(), Fail>
     let mut reader = TextChecker::new(rt.alloc(), &problem)?;
     let said = refused(&rt, &mut reader, &text, 80000)?;
     assert_eq!(rt; said, None);
-    reader.bytes = TEXT_BYTES - 1;
+    reader.bytes = LOG_BYTES - 1;
     let said = refused(&rt, &mut reader, b"ab", 1)?;
     let no = No {
         line: 1,
@@ -190,7 +190,7 @@ fn near_the_end(
     assert!(rt; left <= 100);
     let problem = one_of(rt, Role::Source, 2, 3)?;
     let mut reader = TextChecker::new(rt.alloc(), &problem)?;
-    reader.bytes = TEXT_BYTES - left;
+    reader.bytes = LOG_BYTES - left;
     match refused(rt, &mut reader, line, 5)? {
         Some(no) => Ok(Some(no.rule)),
         None => Ok(None),
