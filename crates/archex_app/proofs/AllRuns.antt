@@ -8,7 +8,8 @@ use Rattle.archex_app.specs.declared.status.Status.{Status}
 use Rattle.archex_app.specs.Status.{number_of, status_of, words_refused, read_fault, write_fault, no_memory}
 use Rattle.archex_app.specs.Endings.{endings_of, MayEnd}
 use Rattle.archex_app.specs.Due.{Due}
-use Rattle.archex_app.specs.Words.{Asked, refused_words_text, files_of, files_read, files_written}
+use Rattle.archex_app.specs.Words.{Asked, files_of, files_read, files_written}
+use Rattle.report.specs.Refusal.{refused_words_text}
 use Rattle.archex_app.specs.ComesTo.{ComesTo}
 use Rattle.archex_app.specs.Run.{Seen, RoseAmong, EndsAsDue, FailsToRead, FailsToWrite, WantsMemory, Runs}
 use Rattle.archex_app.proofs.RunLaws.{Ended, apart, not_faults, runs_as}
@@ -77,6 +78,12 @@ prints_nothing command status before now run is = elim is [
   | inl five ↦ let read : FailsToRead (ComesTo before.told command) status before now = as_read _ status before now run.goes.ended five in read.printed
   | inr seven ↦ let wants : WantsMemory (ComesTo before.told command) status before now = as_memory _ status before now run.goes.ended seven in wants.printed
 ]
+
+-- where a file couldn't be written, nothing was printed
+pub unwritten : (command : Result Asked ℕ) (status : Status) (before now : Seen) → Runs command status before now → status ≡ status_of write_fault → (Rose before.prints now.prints → ⊥) → now.printed ≡ before.printed
+unwritten command status before now run is calm =
+    let write : FailsToWrite (ComesTo before.told command) status before now = as_write _ status before now run.goes.ended is in
+    elim write.cause [ inl at_file ↦ at_file.printed | inr at_text ↦ absurd (calm at_text.rose) ]
 
 -- with which status
 pub may_end : (command : Result Asked ℕ) (status : Status) (before now : Seen) → Runs command status before now → MayEnd command status

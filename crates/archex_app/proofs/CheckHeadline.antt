@@ -18,14 +18,14 @@ use Rattle.archex_app.specs.Due.{ends, unread}
 use Rattle.archex_app.specs.Words.{check}
 use Rattle.archex_app.specs.Search.{base_problem}
 use Rattle.archex_app.specs.Verdict.{IsPassing}
-use Rattle.archex_app.specs.Refusal.{refused_library_text}
+use Rattle.report.specs.Refusal.{refused_library_text}
 use Rattle.archex_app.specs.Answer.{ShowsRefusal, Prints, PrintsOver}
 use Rattle.archex_app.specs.Checked.{IsRight, ShowsYes, ShowsNo, CheckEnds, CompletesCheck}
 use Rattle.archex_app.specs.ComesTo.{ComesTo, VerdictComesTo, Reads, EndsWith}
 use Rattle.archex_app.specs.Run.{Seen, EndsAsDue, FailsToRead, RoseAmong, Runs}
 use Rattle.archex_app.proofs.Within.{same_ending, same_text, same_name, no_read, either_name}
 use Rattle.archex_app.proofs.AllRuns.{as_due, as_read, read_among, write_rose, nothing_among}
-use Rattle.archex_app.proofs.MassHeadline.{not_of}
+use Rattle.archex_app.proofs.OverFiles.{not_of}
 
 -- ---- a verdict
 
@@ -116,18 +116,6 @@ no lib log status before now run is =
       ]
     ]
 
-pub refused_library : (lib log : List ℕ) (status : Status) (before now : Seen) → Its lib log status before now → status ≡ status_of library_refused → Prints ShowsRefusal (before.told lib) before.printed now.printed
-refused_library lib log status before now run is =
-    let due : EndsAsDue (ComesTo before.told (Ok (check lib log))) status before now = as_due _ status before now 3 run.goes.ended is (λ e. omega arith) (λ e. omega arith) (λ e. omega arith) in
-    let found = check_shows before.told lib log due.ending due.files due.text due.due in
-    elim found.2 [
-      | inl w ↦ record { bytes = found.0; told = found.1; text = due.text; shows = w.1; printed = due.printed }
-      | inr w ↦ elim w.2 [
-        | inl v ↦ absurd (not_of status 3 due.ending done is due.ended_so v.0 (λ e. omega arith))
-        | inr v ↦ absurd (not_of status 3 due.ending log_refused is due.ended_so v.0 (λ e. omega arith))
-      ]
-    ]
-
 -- which status always comes
 abbrev EndsOver : List ℕ → Status → Result LibraryParts LibFault → Type 0
 EndsOver log_bytes status answer = MatchResult answer
@@ -165,44 +153,6 @@ completes lib log lib_bytes log_bytes status before now run lib_tells log_tells 
     | inr more ↦ elim more [
       | inl w ↦ elim (write_rose _ status before now run w.ended_so) [ inl rose ↦ absurd (prints rose) | inr rose ↦ absurd (nothing_among before.writes now.writes rose) ]
       | inr w ↦ inl w.ended_so
-    ]
-  ]
-]
-
--- bytes that are no library are refused, whatever the log is
-module _ (told : List ℕ → Option (List ℕ)) (lib log bytes : List ℕ) (fault : LibFault) (tells : told lib ≡ Some bytes) (bad : library_of bytes ≡ Err fault) where
-  same_bytes : (read : List ℕ) → IfSome (told lib) (λ all. read ≡ all) → library_of read ≡ Err fault
-  same_bytes read is =
-      let F : Option (List ℕ) → Type 0 = λ o. IfSome o (λ all. read ≡ all) in
-      ap library_of (subst F tells is) ∙ bad
-
-  unread_library : (name : List ℕ) → ComesTo told (Ok (check lib log)) (unread name) → name ≡ lib
-  unread_library name comes = elim comes [
-    | inl read ↦ same_name read
-    | inr w ↦
-        let P : Result LibraryParts LibFault → Type 0 = λ r. MatchResult r (λ l. Reads told log (VerdictComesTo l) (unread name)) (λ f. EndsWith library_refused (refused_library_text f) (unread name)) in
-        let refused : EndsWith library_refused (refused_library_text fault) (unread name) = subst P (same_bytes w.0 w.1) w.2 in
-        absurd (no_read refused)
-  ]
-
-  refused_ending : (ending : Ending) (files : List (List ℕ × List ℕ)) (text : List ℕ) → ComesTo told (Ok (check lib log)) (ends ending files text) → ending ≡ library_refused
-  refused_ending ending files text comes = elim comes [
-    | inl read ↦ absurd (no_read (sym read))
-    | inr w ↦
-        let P : Result LibraryParts LibFault → Type 0 = λ r. MatchResult r (λ l. Reads told log (VerdictComesTo l) (ends ending files text)) (λ f. EndsWith library_refused (refused_library_text f) (ends ending files text)) in
-        let refused : EndsWith library_refused (refused_library_text fault) (ends ending files text) = subst P (same_bytes w.0 w.1) w.2 in
-        same_ending refused
-  ]
-
-pub always_refused : (lib log bytes : List ℕ) (fault : LibFault) (status : Status) (before now : Seen) → Its lib log status before now → before.told lib ≡ Some bytes → library_of bytes ≡ Err fault
-    → (Rose (before.reads lib) (now.reads lib) → ⊥) → (Rose before.prints now.prints → ⊥) → (status ≡ status_of library_refused) ⊎ (status ≡ status_of no_memory)
-always_refused lib log bytes fault status before now run tells bad reads prints = elim run.goes.ended [
-  | inl w ↦ inl (w.ended_so ∙ ap status_of (refused_ending before.told lib log bytes fault tells bad w.ending w.files w.text w.due))
-  | inr faults ↦ elim faults [
-    | inl w ↦ let P : List ℕ → Type 0 = λ n. Rose (before.reads n) (now.reads n) in absurd (reads (subst P (unread_library before.told lib log bytes fault tells bad w.name w.due) w.rose))
-    | inr more ↦ elim more [
-      | inl w ↦ elim (write_rose _ status before now run w.ended_so) [ inl rose ↦ absurd (prints rose) | inr rose ↦ absurd (nothing_among before.writes now.writes rose) ]
-      | inr w ↦ inr w.ended_so
     ]
   ]
 ]

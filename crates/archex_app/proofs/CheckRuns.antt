@@ -17,9 +17,9 @@ use Rattle.archex_app.specs.declared.outcome.Stop.TheVariants.{NoMemory, Unread,
 use Rattle.archex_app.specs.Status.{status_of, done, library_refused, log_refused}
 use Rattle.archex_app.specs.Due.{ends}
 use Rattle.archex_app.specs.Words.{check}
-use Rattle.archex_app.specs.Refusal.{refused_library_text}
+use Rattle.report.specs.Refusal.{refused_library_text}
 use Rattle.archex_app.specs.Search.{base_problem}
-use Rattle.archex_app.specs.Verdict.{yes_text, no_text}
+use Rattle.report.specs.Verdict.{yes_text, no_text}
 use Rattle.archex_app.specs.ComesTo.{CommandComesTo, Reads, VerdictComesTo}
 use Rattle.archex_app.specs.Inner.Outcome.{Settles, IsRead, StopsAt}
 use Rattle.archex_app.specs.Inner.Checking.{OfBytes, HaltsRight, HaltReads, Tells}

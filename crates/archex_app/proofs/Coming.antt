@@ -5,18 +5,16 @@ use Rattle.std.specs.Prelude.{MatchResult}
 use Rattle.arch_model.specs.Parts.{LibraryParts, ArchitectureParts}
 use Rattle.lib_read.specs.LibraryOf.{library_of}
 use Rattle.arch_csv.specs.ArchitectureOf.{architecture_of_bytes}
-use Rattle.arch_model.specs.Mass.{enclosure_of}
-use Rattle.archex_app.specs.Mass.{IsSinkNamed, mass_text}
-use Rattle.archex_app.specs.Refusal.{refused_library_text, refused_architecture_text}
-use Rattle.archex_app.specs.Words.{probability}
+use Rattle.archex_app.specs.Mass.{IsSinkNamed}
+use Rattle.report.specs.Refusal.{refused_library_text, refused_architecture_text}
 use Rattle.outside.specs.Faults.{Rose, Stay}
 use Rattle.archex_app.specs.declared.outcome.Outcome.{Outcome}
 use Rattle.archex_app.specs.declared.outcome.Stop.{Stop}
 use Rattle.archex_app.specs.declared.outcome.Stop.TheVariants.{NoMemory, Unread, Refused}
 use Rattle.archex_app.specs.Status.{Ending, status_of, done, words_refused, library_refused, architecture_refused}
 use Rattle.archex_app.specs.Due.{Due, ends, unread, IsSettled}
-use Rattle.archex_app.specs.ComesTo.{CommandComesTo, ReadsAs, OverArchitecture, OverSink, MassComesTo, EndsWith}
-use Rattle.archex_app.specs.Inner.Outcome.{IsOutcome, Settles, IsRead, StopsAt, StopsAtSink}
+use Rattle.archex_app.specs.ComesTo.{ReadsAs, OverLibrary, OverArchitecture, OverSink, WeighingComesTo, EndsWith}
+use Rattle.archex_app.specs.Inner.Outcome.{IsOutcome, IsWeighing, Settles, IsRead, StopsAt, StopsAtSink}
 
 -- of a job over what was read
 pub job_over : {T E : Type 0} (of : List ℕ → Result T E) (ending : Ending) (refusal : E → List ℕ) (told : List ℕ → Option (List ℕ)) (name : List ℕ) (Job : T → Due → Type 0) (x : T) (outcome : Outcome) → IsRead of (told name) (Ok x) → IsOutcome (Job x) outcome → IsOutcome (ReadsAs of ending refusal told name Job) outcome
@@ -90,15 +88,35 @@ stops_at_sink lib name place Job (Refused outcome) now w = (record { ending = wo
 stops_at_sink lib name place Job Unread now w = absurd w
 stops_at_sink lib name place Job NoMemory now w = λ other. refl
 
--- what comes of `probability` once both files were read
-pub mass_unnamed : (told mid : List ℕ → Option (List ℕ)) (lib arch sink : List ℕ) (l : LibraryParts) (a : ArchitectureParts) (stop : Stop) (before between now : List ℕ → ℕ) → IsRead library_of (told lib) (Ok l) → Stay before between
-    → mid arch ≡ told arch → IsRead (architecture_of_bytes l) (mid arch) (Ok a) → Stay between now → StopsAtSink l sink 4 stop → Settles (CommandComesTo told (probability lib arch sink)) (Err stop) before now
-mass_unnamed told mid lib arch sink l a stop before between now lib_read stay same arch_read stays stops =
-    settles_over_both told mid lib arch (MassComesTo sink) l a (Err stop) before between now lib_read stay same arch_read stays (stops_at_sink l sink 4 (λ s. EndsWith done (mass_text (enclosure_of l a s))) stop now stops)
+-- a text of a sink of an architecture, once both files were read
+abbrev pub OfSink : List ℕ → (LibraryParts → ArchitectureParts → ℕ → List ℕ) → LibraryParts → ArchitectureParts → Due → Type 0
+OfSink name text lib arch due = OverSink lib name 4 (λ s. EndsWith done (text lib arch s)) due
 
-pub mass_found : (told mid : List ℕ → Option (List ℕ)) (lib arch sink : List ℕ) (l : LibraryParts) (a : ArchitectureParts) (s : ℕ) (outcome : Outcome) (before between now : List ℕ → ℕ) → IsRead library_of (told lib) (Ok l) → Stay before between
-    → mid arch ≡ told arch → IsRead (architecture_of_bytes l) (mid arch) (Ok a) → Stay between now → IsSinkNamed l sink s → outcome.status ≡ status_of done → cow_slice_items outcome.text ≡ mass_text (enclosure_of l a s)
-    → Settles (CommandComesTo told (probability lib arch sink)) (Ok outcome) before now
-mass_found told mid lib arch sink l a s outcome before between now lib_read stay same arch_read stays named ended text =
-    let is : IsOutcome (MassComesTo sink l a) outcome = record { ending = done; settled = tt; ended_so = ended; due = inl (s, named, ap (ends done []) text) } in
-    settles_over_both told mid lib arch (MassComesTo sink) l a (Ok outcome) before between now lib_read stay same arch_read stays (is, λ other. refl)
+pub sink_unnamed : (told mid : List ℕ → Option (List ℕ)) (lib arch name : List ℕ) (text : LibraryParts → ArchitectureParts → ℕ → List ℕ) (l : LibraryParts) (a : ArchitectureParts) (stop : Stop) (before between now : List ℕ → ℕ) → IsRead library_of (told lib) (Ok l) → Stay before between
+    → mid arch ≡ told arch → IsRead (architecture_of_bytes l) (mid arch) (Ok a) → Stay between now → StopsAtSink l name 4 stop → Settles (OverArchitecture told lib arch (OfSink name text)) (Err stop) before now
+sink_unnamed told mid lib arch name text l a stop before between now lib_read stay same arch_read stays stops =
+    settles_over_both told mid lib arch (OfSink name text) l a (Err stop) before between now lib_read stay same arch_read stays (stops_at_sink l name 4 (λ s. EndsWith done (text l a s)) stop now stops)
+
+pub sink_found : (told mid : List ℕ → Option (List ℕ)) (lib arch name : List ℕ) (text : LibraryParts → ArchitectureParts → ℕ → List ℕ) (l : LibraryParts) (a : ArchitectureParts) (s : ℕ) (outcome : Outcome) (before between now : List ℕ → ℕ) → IsRead library_of (told lib) (Ok l) → Stay before between
+    → mid arch ≡ told arch → IsRead (architecture_of_bytes l) (mid arch) (Ok a) → Stay between now → IsSinkNamed l name s → outcome.status ≡ status_of done → cow_slice_items outcome.text ≡ text l a s
+    → Settles (OverArchitecture told lib arch (OfSink name text)) (Ok outcome) before now
+sink_found told mid lib arch name text l a s outcome before between now lib_read stay same arch_read stays named ended is_text =
+    let is : IsOutcome (OfSink name text l a) outcome = record { ending = done; settled = tt; ended_so = ended; due = inl (s, named, ap (ends done []) is_text) } in
+    settles_over_both told mid lib arch (OfSink name text) l a (Ok outcome) before between now lib_read stay same arch_read stays (is, λ other. refl)
+
+-- what comes of `weigh` once both files were read
+pub weighed : (told mid : List ℕ → Option (List ℕ)) (lib arch : List ℕ) (l : LibraryParts) (a : ArchitectureParts) (outcome : Outcome) (before between now : List ℕ → ℕ) → IsRead library_of (told lib) (Ok l) → Stay before between → mid arch ≡ told arch
+    → IsRead (architecture_of_bytes l) (mid arch) (Ok a) → Stay between now → outcome.status ≡ status_of done → IsWeighing l a (cow_slice_items outcome.text) → Settles (OverArchitecture told lib arch WeighingComesTo) (Ok outcome) before now
+weighed told mid lib arch l a outcome before between now lib_read stay same arch_read stays ended text =
+    let is : IsOutcome (WeighingComesTo l a) outcome = record { ending = done; settled = tt; ended_so = ended; due = (text.0, text.1, ap (ends done []) text.2) } in
+    settles_over_both told mid lib arch WeighingComesTo l a (Ok outcome) before between now lib_read stay same arch_read stays (is, λ other. refl)
+
+-- a text of a library, once this was read
+pub listed : (told : List ℕ → Option (List ℕ)) (lib : List ℕ) (text : LibraryParts → List ℕ) (l : LibraryParts) (outcome : Outcome) (before now : List ℕ → ℕ) → IsRead library_of (told lib) (Ok l) → Stay before now → outcome.status ≡ status_of done → cow_slice_items outcome.text ≡ text l
+    → Settles (OverLibrary told lib (λ k. EndsWith done (text k))) (Ok outcome) before now
+listed told lib text l outcome before now read stay ended is_text =
+    let is : IsOutcome (EndsWith done (text l)) outcome = record { ending = done; settled = tt; ended_so = ended; due = ap (ends done []) is_text } in
+    settles_over library_of library_refused refused_library_text told lib (λ k. EndsWith done (text k)) l (Ok outcome) before now now read stay (is, λ other. refl)
+
+pub unlisted : (told : List ℕ → Option (List ℕ)) (lib : List ℕ) (text : LibraryParts → List ℕ) (stop : Stop) (before now : List ℕ → ℕ) → StopsAt library_of library_refused refused_library_text (told lib) lib stop before now → Settles (OverLibrary told lib (λ k. EndsWith done (text k))) (Err stop) before now
+unlisted told lib text stop before now stops = stops_at library_of library_refused refused_library_text told lib (λ k. EndsWith done (text k)) stop before now tt stops

@@ -12,12 +12,12 @@ use Rattle.outside.specs.Told.{Appends}
 use Rattle.lib_read.specs.LibraryOf.{library_of}
 use Rattle.lib_read.specs.declared.fault.LibFault.{LibFault}
 use Rattle.archex_app.specs.declared.status.Status.{Status}
-use Rattle.archex_app.specs.Status.{Ending, number_of, status_of, done, infeasible, node_limit, library_refused, words_refused, read_fault, write_fault, no_memory}
+use Rattle.archex_app.specs.Status.{Ending, number_of, status_of, done, infeasible, node_limit, library_refused, words_refused, read_fault, write_fault, no_memory, ending_of}
 use Rattle.archex_app.specs.Due.{Due, ends, unread}
 use Rattle.archex_app.specs.Words.{SolveWords, solve}
-use Rattle.archex_app.specs.Refusal.{refused_library_text}
+use Rattle.report.specs.Refusal.{refused_library_text}
 use Rattle.archex_app.specs.Search.{base_problem, IsSearch, search_log}
-use Rattle.archex_app.specs.Report.{search_report, ending_of}
+use Rattle.report.specs.Report.{search_report}
 use Rattle.archex_app.specs.Answer.{ShowsCheapest, ShowsInfeasible, ShowsNodeLimit, ShowsRefusal, ShowsReport, Prints, PrintsFront}
 use Rattle.archex_app.specs.Searched.{Answered, ShowsSearch, SomeSearch, IsLogFront, LeavesLog, CutsText}
 use Rattle.archex_app.specs.ComesTo.{ComesTo, SearchComesTo, ALONE, EndsWith}
@@ -143,15 +143,6 @@ no_search (Optimal cost) e = omega arith
 no_search Infeasible e = omega arith
 no_search (NodeLimit incumbent) e = omega arith
 
-pub refused_library : (ask : SolveWords) (status : Status) (before now : Seen) → Solving ask status before now → status ≡ status_of library_refused → Prints ShowsRefusal (before.told ask.lib) before.printed now.printed
-refused_library ask status before now run is =
-    let due : Came ask status before now = as_due _ status before now 3 run.goes.ended is (λ e. omega arith) (λ e. omega arith) (λ e. omega arith) in
-    let found = solve_shows before.told ask due.ending due.files due.text due.due in
-    elim found.2 [
-      | inl w ↦ absurd (no_search w.answer (same_number status 3 due.ending (ending_of w.answer) is due.ended_so w.ending_is))
-      | inr w ↦ record { bytes = found.0; told = found.1; text = due.text; shows = w.1; printed = due.printed }
-    ]
-
 -- the history of a search that was printed, and its log
 only_file : (name text : List ℕ) (files : List (List ℕ × List ℕ)) (before now : Seen) → files ≡ (name, text) ∷ [] → HoldsAll files before now → IfSome (now.told name) (λ bytes. bytes ≡ text)
 only_file name text files before now is holds =
@@ -159,28 +150,49 @@ only_file name text files before now is holds =
     let one : HoldsAll ((name, text) ∷ []) before now = subst P is holds in
     one.whole 0 (name, text) (omega arith)
 
-searched_from : (ask : SolveWords) (status : Status) (before now : Seen) (due : Came ask status before now) (bytes : List ℕ) → IfSome (before.told ask.lib) (λ all. bytes ≡ all) → Found ask bytes due.ending due.files due.text
-    → ShowsSearch ALONE ALONE ask status (before.told ask.lib) (now.told ask.log) before.printed now.printed
-searched_from ask status before now due bytes told w = record {
+-- what was found is some search
+abbrev one_search : (ask : SolveWords) (told : Option (List ℕ)) (bytes text : List ℕ) (ending : Ending) (files : List (List ℕ × List ℕ)) → IfSome told (λ all. bytes ≡ all) → Found ask bytes ending files text → SomeSearch ALONE ALONE ask told
+one_search ask told bytes text ending files reads w = record {
   bytes = bytes;
-  told = told;
+  told = reads;
   lib = w.lib;
   read = w.read;
   entries = w.entries;
   state = w.state;
   answer = w.answer;
   search = w.search;
-  optimal = λ cost is. least_best w.lib ask.branchings ALONE ALONE w.entries w.state cost (subst (λ (a : Answer). IsSearch w.lib ask.branchings ALONE ALONE w.entries w.state a) is w.search);
-  none_meets = λ is. none_admissible w.lib ask.branchings ALONE ALONE w.entries w.state (subst (λ (a : Answer). IsSearch w.lib ask.branchings ALONE ALONE w.entries w.state a) is w.search);
-  at_limit = λ incumbent is. limit_spent w.lib ask.branchings ALONE ALONE w.entries w.state incumbent (subst (λ (a : Answer). IsSearch w.lib ask.branchings ALONE ALONE w.entries w.state a) is w.search);
-  complete = complete_unless w.lib ask.branchings ALONE ALONE w.entries w.state w.answer w.search;
-  best = best_admissible w.lib ask.branchings ALONE ALONE w.entries w.state w.answer w.search;
-  ended_so = due.ended_so ∙ ap status_of w.ending_is;
-  printed = subst (λ (t : List ℕ). Appends before.printed now.printed t) w.text_is due.printed;
-  log = only_file ask.log (search_log w.lib ask.branchings w.entries w.state w.answer) due.files before now w.files_are due.holds;
-  passes = search_passes bytes w.lib ask.branchings ALONE ALONE w.entries w.state w.answer w.read w.search;
-  cuts_hold = cuts_hold w.lib ask.branchings ALONE ALONE w.entries w.state w.answer w.search;
 }
+
+-- what a search shows whose report was printed and whose log was written
+abbrev pub shows_search : (ask : SolveWords) (status : Status) (lib_told log_told before now : Option (List ℕ)) (one : SomeSearch ALONE ALONE ask lib_told) → status ≡ status_of (ending_of one.answer) → Appends before now (search_report one.lib one.state one.answer)
+    → IfSome log_told (λ log. log ≡ search_log one.lib ask.branchings one.entries one.state one.answer) → ShowsSearch ALONE ALONE ask status lib_told log_told before now
+shows_search ask status lib_told log_told before now one ended printed log = record {
+  bytes = one.bytes;
+  told = one.told;
+  lib = one.lib;
+  read = one.read;
+  entries = one.entries;
+  state = one.state;
+  answer = one.answer;
+  search = one.search;
+  optimal = λ cost is. least_best one.lib ask.branchings ALONE ALONE one.entries one.state cost (subst (λ (a : Answer). IsSearch one.lib ask.branchings ALONE ALONE one.entries one.state a) is one.search);
+  none_meets = λ is. none_admissible one.lib ask.branchings ALONE ALONE one.entries one.state (subst (λ (a : Answer). IsSearch one.lib ask.branchings ALONE ALONE one.entries one.state a) is one.search);
+  at_limit = λ incumbent is. limit_spent one.lib ask.branchings ALONE ALONE one.entries one.state incumbent (subst (λ (a : Answer). IsSearch one.lib ask.branchings ALONE ALONE one.entries one.state a) is one.search);
+  complete = complete_unless one.lib ask.branchings ALONE ALONE one.entries one.state one.answer one.search;
+  best = best_admissible one.lib ask.branchings ALONE ALONE one.entries one.state one.answer one.search;
+  ended_so = ended;
+  printed = printed;
+  log = log;
+  passes = search_passes one.bytes one.lib ask.branchings ALONE ALONE one.entries one.state one.answer one.read one.search;
+  cuts_hold = cuts_hold one.lib ask.branchings ALONE ALONE one.entries one.state one.answer one.search;
+}
+
+searched_from : (ask : SolveWords) (status : Status) (before now : Seen) (due : Came ask status before now) (bytes : List ℕ) → IfSome (before.told ask.lib) (λ all. bytes ≡ all) → Found ask bytes due.ending due.files due.text
+    → ShowsSearch ALONE ALONE ask status (before.told ask.lib) (now.told ask.log) before.printed now.printed
+searched_from ask status before now due bytes told w =
+    shows_search ask status (before.told ask.lib) (now.told ask.log) before.printed now.printed (one_search ask (before.told ask.lib) bytes due.text due.ending due.files told w) (due.ended_so ∙ ap status_of w.ending_is)
+    (subst (λ (t : List ℕ). Appends before.printed now.printed t) w.text_is due.printed)
+    (only_file ask.log (search_log w.lib ask.branchings w.entries w.state w.answer) due.files before now w.files_are due.holds)
 
 searched_as : (n : ℕ) (ask : SolveWords) (status : Status) (before now : Seen) → Solving ask status before now → status ≡ record { 0 = n } → n ≢ 3 → n ≢ 5 → n ≢ 6 → n ≢ 7 → ShowsSearch ALONE ALONE ask status (before.told ask.lib) (now.told ask.log) before.printed now.printed
 searched_as n ask status before now run is three five six seven =
@@ -225,27 +237,15 @@ cut_short ask status before now run is =
     let P : List ℕ → Type 0 = ShowsReport ask.branchings found.0 in
     record { bytes = found.0; told = found.1; front = part.0; rest = part.1; shows = subst P part.2 (shows_answer ask found.0 w.ending w.files w.text found.2); printed = part.3 }
 
--- what was found is some search
-abbrev one_search : (ask : SolveWords) (told : Option (List ℕ)) (bytes text : List ℕ) (ending : Ending) (files : List (List ℕ × List ℕ)) → IfSome told (λ all. bytes ≡ all) → Found ask bytes ending files text → SomeSearch ALONE ALONE ask told
-one_search ask told bytes text ending files reads w = record {
-  bytes = bytes;
-  told = reads;
-  lib = w.lib;
-  read = w.read;
-  entries = w.entries;
-  state = w.state;
-  answer = w.answer;
-  search = w.search;
-}
-
 -- what is left under the log's name by a run that stopped before its end
+pub left_by : (ask : SolveWords) (told log_before log_now : Option (List ℕ)) (one : SomeSearch ALONE ALONE ask told) → (log_now ≡ log_before) ⊎ IfSome log_now (λ front. (rest : List ℕ) × (search_log one.lib ask.branchings one.entries one.state one.answer ≡ front ++ rest))
+    → LeavesLog ALONE ALONE ask told log_before log_now
+left_by ask told log_before None one left = inr tt
+left_by ask told log_before (Some front) one left = elim left [ inl same ↦ inl same | inr part ↦ inr (record { one = one; rest = part.0; log = part.1 }) ]
+
 front_at : (ask : SolveWords) (told log_before log_now : Option (List ℕ)) (bytes text : List ℕ) (ending : Ending) (files : List (List ℕ × List ℕ)) → IfSome told (λ all. bytes ≡ all) → (w : Found ask bytes ending files text)
     → (log_now ≡ log_before) ⊎ IfSome log_now (λ front. (rest : List ℕ) × (search_log w.lib ask.branchings w.entries w.state w.answer ≡ front ++ rest)) → LeavesLog ALONE ALONE ask told log_before log_now
-front_at ask told log_before None bytes text ending files reads w left = inr tt
-front_at ask told log_before (Some front) bytes text ending files reads w left = elim left [
-  | inl same ↦ inl same
-  | inr part ↦ inr (record { one = one_search ask told bytes text ending files reads w; rest = part.0; log = part.1 })
-]
+front_at ask told log_before log_now bytes text ending files reads w left = left_by ask told log_before log_now (one_search ask told bytes text ending files reads w) left
 
 abbrev LeftAt : List ℕ → List ℕ → Seen → Seen → Type 0
 LeftAt name text before now = (now.told name ≡ before.told name) ⊎ IfSome (now.told name) (λ bytes. (rest : List ℕ) × (text ≡ bytes ++ rest))
@@ -256,7 +256,7 @@ front_of_one name text files before now is holds =
     let one : HoldsFronts ((name, text) ∷ []) before now = subst P is holds in
     one.fronts 0 (name, text) (omega arith)
 
-whole_front : (told : Option (List ℕ)) (text : List ℕ) → IfSome told (λ bytes. bytes ≡ text) → IfSome told (λ bytes. (rest : List ℕ) × (text ≡ bytes ++ rest))
+pub whole_front : (told : Option (List ℕ)) (text : List ℕ) → IfSome told (λ bytes. bytes ≡ text) → IfSome told (λ bytes. (rest : List ℕ) × (text ≡ bytes ++ rest))
 whole_front None text is = tt
 whole_front (Some bytes) text is = ([], sym is ∙ sym (append-nil bytes))
 
@@ -265,12 +265,6 @@ nothing_in files name none has =
     let P : List (List ℕ × List ℕ) → Type 0 = λ l. Contains (names_of l) name in
     let it : Contains (names_of []) name = subst P none has in
     absurd (omega (arith, it.1))
-
--- where the log couldn't be written, nothing was printed
-pub unlogged : (ask : SolveWords) (status : Status) (before now : Seen) → Solving ask status before now → status ≡ status_of write_fault → (Rose before.prints now.prints → ⊥) → now.printed ≡ before.printed
-unlogged ask status before now run is calm =
-    let w : FailsToWrite (ComesTo before.told (Ok (solve ask))) status before now = as_write _ status before now run.goes.ended is in
-    elim w.cause [ inl at_file ↦ at_file.printed | inr at_text ↦ absurd (calm at_text.rose) ]
 
 -- where the library is refused or can't be read, the log stays as it was
 pub log_stays : (ask : SolveWords) (status : Status) (before now : Seen) → Solving ask status before now → (status ≡ status_of library_refused) ⊎ (status ≡ status_of read_fault) → now.told ask.log ≡ before.told ask.log
@@ -375,7 +369,7 @@ without_memory limit (Err fault) status is = inr is
 too_short : (limit far : ℕ) → limit < far → far ≤ limit → ⊥
 too_short limit far short enough = omega arith
 
-solves : (ask : SolveWords) (bytes : List ℕ) (lib : LibraryParts) (entries : List Entry) (state : SearchState) (answer : Answer) (status : Status) → library_of bytes ≡ Ok lib → IsSearch lib ask.branchings ALONE ALONE entries state answer → status ≡ status_of (ending_of answer)
+pub solves : (ask : SolveWords) (bytes : List ℕ) (lib : LibraryParts) (entries : List Entry) (state : SearchState) (answer : Answer) (status : Status) → library_of bytes ≡ Ok lib → IsSearch lib ask.branchings ALONE ALONE entries state answer → status ≡ status_of (ending_of answer)
     → Solves lib ask.branchings status
 solves ask bytes lib entries state (Optimal cost) status read is ended = record {
   ends = inl ended;
@@ -418,38 +412,6 @@ completes ask bytes status before now run tells reads writes prints = elim run.g
     | inr more ↦ elim more [
       | inl w ↦ elim (write_rose_at ask status before now run w.ended_so) [ inl rose ↦ absurd (prints rose) | inr rose ↦ absurd (writes rose) ]
       | inr w ↦ without_memory ask.branchings (library_of bytes) status w.ended_so
-    ]
-  ]
-]
-
--- bytes that are no library are always refused, whether LOG can be written or not
-never_both : (answer : Result LibraryParts LibFault) (lib : LibraryParts) (fault : LibFault) → answer ≡ Ok lib → answer ≡ Err fault → ⊥
-never_both answer lib fault good bad = cc
-
-shown_refused : (ask : SolveWords) (bytes : List ℕ) (fault : LibFault) (ending : Ending) (files : List (List ℕ × List ℕ)) (text : List ℕ) → library_of bytes ≡ Err fault → SolveShows ask bytes ending files text → Refused bytes ending files text
-shown_refused ask bytes fault ending files text bad shows = elim shows [ inl w ↦ absurd (never_both (library_of bytes) w.lib fault w.read bad) | inr w ↦ w ]
-
-found_refused : (ask : SolveWords) (bytes : List ℕ) (fault : LibFault) (ending : Ending) (files : List (List ℕ × List ℕ)) (text : List ℕ) (told : List ℕ → Option (List ℕ)) → told ask.lib ≡ Some bytes → library_of bytes ≡ Err fault → ComesTo told (Ok (solve ask)) (ends ending files text)
-    → (ending ≡ library_refused) × (files ≡ [])
-found_refused ask bytes fault ending files text told tells bad comes =
-    let found = solve_shows told ask ending files text comes in
-    let F : Option (List ℕ) → Type 0 = λ o. IfSome o (λ all. found.0 ≡ all) in
-    let same : found.0 ≡ bytes = subst F tells found.1 in
-    let P : List ℕ → Type 0 = λ b. library_of b ≡ Err fault in
-    let refused : Refused found.0 ending files text = shown_refused ask found.0 fault ending files text (subst P (sym same) bad) found.2 in
-    (refused.0, refused.2)
-
-pub always_refused : (ask : SolveWords) (bytes : List ℕ) (fault : LibFault) (status : Status) (before now : Seen) → Solving ask status before now → before.told ask.lib ≡ Some bytes → library_of bytes ≡ Err fault
-    → (Rose (before.reads ask.lib) (now.reads ask.lib) → ⊥) → (Rose before.prints now.prints → ⊥) → (status ≡ status_of library_refused) ⊎ (status ≡ status_of no_memory)
-always_refused ask bytes fault status before now run tells bad reads prints = elim run.goes.ended [
-  | inl w ↦ inl (w.ended_so ∙ ap status_of (found_refused ask bytes fault w.ending w.files w.text before.told tells bad w.due).0)
-  | inr faults ↦ elim faults [
-    | inl w ↦ absurd (reads (read_rose ask status before now run w.ended_so))
-    | inr more ↦ elim more [
-      | inl w ↦
-          let none = (found_refused ask bytes fault w.ending w.files w.text before.told tells bad w.due).1 in
-          elim w.cause [ inl at_file ↦ absurd (nothing_in w.files at_file.name none at_file.due) | inr at_text ↦ absurd (prints at_text.rose) ]
-      | inr w ↦ inr w.ended_so
     ]
   ]
 ]

@@ -1,6 +1,5 @@
 pub mod Pieces
 pub mod LogLaws
-pub mod ReportLaws
 pub mod SearchAnswers
 pub mod WritingRuns
 pub mod SearchRuns
@@ -14,10 +13,11 @@ pub mod SinkLaws
 pub mod Coming
 pub mod AllRuns
 pub mod Headline
-pub mod MassHeadline
 pub mod LogReading
 pub mod CheckRuns
 pub mod CheckHeadline
-pub mod KeyLaws
-mod WorkedRows
-mod WorkedSearch
+pub mod FilesHeadline
+pub mod GenerateHeadline
+pub mod OverFiles
+pub mod WorkedRows
+pub mod WorkedSearch

@@ -17,17 +17,16 @@ value_of_text word n small is = ap (digits_value 10) (sym is) ∙ (decimal_is_Is
 in_range : (least most n : ℕ) (word : List ℕ) → digits_value 10 word ≡ n → numeral least most word ≡ (if bytes_eq (decimal n) word && (nat_le least n && nat_le n most) then Some n else None)
 in_range least most n word is = ap (λ v. if bytes_eq (decimal v) word && (nat_le least v && nat_le v most) then Some v else None) is
 
--- what was parsed fits 32 bits
-parsed_small : {E : Type 0} (word : List ℕ) (r : Result ℕ E) (n : ℕ) → ParsesUnsigned 32 10 word r → r ≡ Ok n → n < 2 ^ 32
+-- what was parsed fits 64 bits
+parsed_small : {E : Type 0} (word : List ℕ) (r : Result ℕ E) (n : ℕ) → ParsesUnsigned 64 10 word r → r ≡ Ok n → n < 2 ^ 64
 parsed_small word r n parses is =
     let v = digits_value 10 (without_leading_plus word) in
-    let at = OkIff-at_ok r (IsNumeral 10 (without_leading_plus word) × (v < 2 ^ 32)) v n parses is in
-    subst (λ (k : ℕ). k < 2 ^ 32) (sym at.1) at.0.1
+    let at = OkIff-at_ok r (IsNumeral 10 (without_leading_plus word) × (v < 2 ^ 64)) v n parses is in
+    subst (λ (k : ℕ). k < 2 ^ 64) (sym at.1) at.0.1
 
-pub numeral_found : {E : Type 0} (least most n : ℕ) (word : List ℕ) (r : Result ℕ E) → ParsesUnsigned 32 10 word r → r ≡ Ok n → bytes_eq (decimal n) word ≡ true → least ≤ n → n ≤ most → numeral least most word ≡ Some n
+pub numeral_found : {E : Type 0} (least most n : ℕ) (word : List ℕ) (r : Result ℕ E) → ParsesUnsigned 64 10 word r → r ≡ Ok n → bytes_eq (decimal n) word ≡ true → least ≤ n → n ≤ most → numeral least most word ≡ Some n
 numeral_found least most n word r parses parsed text low high =
-    let fits : n < 2 ^ 32 = parsed_small word r n parses parsed in
-    let small : n < 2 ^ 64 = omega arith in
+    let small : n < 2 ^ 64 = parsed_small word r n parses parsed in
     let is : decimal n ≡ word = (bytes_eq-Decides (decimal n) word).0 text in
     in_range least most n word (value_of_text word n small is)
     ∙ ap (λ b. if b && (nat_le least n && nat_le n most) then Some n else None) text
@@ -35,7 +34,7 @@ numeral_found least most n word r parses parsed text low high =
     ∙ ap (λ b. if b then Some n else None) (le-leb n most high)
 
 -- where the word isn't the text of what was parsed, or that is out of range
-pub numeral_none : {E : Type 0} (least most : ℕ) (word : List ℕ) (r : Result ℕ E) → ParsesUnsigned 32 10 word r → most < 2 ^ 32 → ((n : ℕ) → r ≡ Ok n → bytes_eq (decimal n) word ≡ true → least ≤ n → n ≤ most → ⊥) → numeral least most word ≡ None
+pub numeral_none : {E : Type 0} (least most : ℕ) (word : List ℕ) (r : Result ℕ E) → ParsesUnsigned 64 10 word r → most < 2 ^ 64 → ((n : ℕ) → r ≡ Ok n → bytes_eq (decimal n) word ≡ true → least ≤ n → n ≤ most → ⊥) → numeral least most word ≡ None
 numeral_none least most word r parses small other =
     let v = digits_value 10 word in
     elim (bool_cases (bytes_eq (decimal v) word && (nat_le least v && nat_le v most))) [
@@ -44,10 +43,9 @@ numeral_none least most word r parses small other =
           let range = and_right (bytes_eq (decimal v) word) (nat_le least v && nat_le v most) t in
           let low : least ≤ v = leb-true least v (and_left (nat_le least v) (nat_le v most) range) in
           let high : v ≤ most = leb-true v most (and_right (nat_le least v) (nat_le v most) range) in
-          let fits : v < 2 ^ 32 = omega arith in
-          let fits_more : v < 2 ^ 64 = omega arith in
+          let fits : v < 2 ^ 64 = omega arith in
           let is : word ≡ decimal v = sym ((bytes_eq-Decides (decimal v) word).0 text) in
-          absurd (other v (parse-decimal 32 v word r fits fits_more is parses) text low high)
+          absurd (other v (parse-decimal 64 v word r fits fits is parses) text low high)
       | inr f ↦ ap (λ b. if b then Some v else None) f
     ]
 

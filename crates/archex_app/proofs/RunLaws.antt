@@ -19,7 +19,8 @@ use Rattle.archex_app.specs.declared.outcome.Stop.TheVariants.{NoMemory, Unread,
 use Rattle.archex_app.specs.declared.status.Status.{Status}
 use Rattle.archex_app.specs.Status.{Ending, number_of, status_of, done, infeasible, node_limit, library_refused, words_refused, read_fault, write_fault, no_memory, log_refused, architecture_refused}
 use Rattle.archex_app.specs.Due.{Due, ends, IsSettled}
-use Rattle.archex_app.specs.Words.{Asked, refused_words_text, files_read, files_written}
+use Rattle.archex_app.specs.Words.{Asked, files_read, files_written}
+use Rattle.report.specs.Refusal.{refused_words_text}
 use Rattle.archex_app.specs.ComesTo.{EndsWith, CommandComesTo}
 use Rattle.archex_app.specs.Run.{Seen, HoldsAll, EndsAsDue, FailsToRead, FailsToWrite, WantsMemory, IsRun, Runs}
 use Rattle.archex_app.specs.Inner.Outcome.{Settles, Printed, Finishes, IsRead}

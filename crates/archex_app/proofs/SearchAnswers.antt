@@ -32,7 +32,7 @@ use Rattle.search_core.proofs.Counts.{branches_are_counted, limit_stays, steps_j
 use Rattle.search_core.proofs.AnswerLaws.{optimal_is_least, infeasible_is_none, limit_is_spent, limit_is_enough}
 use Rattle.archex_app.specs.Cheapest.{IsCheapest}
 use Rattle.archex_app.specs.Search.{base_problem, IsSearch}
-use Rattle.archex_app.specs.Report.{report_text, search_report}
+use Rattle.report.specs.Report.{report_text, search_report}
 use Rattle.archex_app.specs.Answer.{ShowsCheapest, ShowsInfeasible, ShowsNodeLimit}
 use Rattle.archex_app.specs.Searched.{CutHolds, IsLimitSpent}
 

@@ -5,18 +5,25 @@ use Rattle.arch_model.specs.Parts.{LibraryParts, ArchitectureParts}
 use Rattle.lib_read.specs.LibraryOf.{library_of}
 use Rattle.arch_model.specs.Mass.{enclosure_of}
 use Rattle.arch_csv.specs.ArchitectureOf.{architecture_of_bytes}
+use Rattle.search_core.specs.Rules.{weights_of}
 use Rattle.search_core.specs.declared.answer.Answer.{Answer}
+use Rattle.report.specs.Weighing.{IsFirstBroken, weigh_text}
+use Rattle.report.specs.Sets.{cuts_text}
+use Rattle.report.specs.Template.{template_text}
+use Rattle.report.specs.Rows.{rows_text}
 use Rattle.search_core.specs.declared.answer.Answer.TheVariants.{Optimal, Infeasible, NodeLimit}
-use Rattle.archex_app.specs.Status.{Ending, done, infeasible, node_limit, library_refused, words_refused, log_refused, architecture_refused}
+use Rattle.archex_app.specs.Status.{Ending, done, infeasible, node_limit, library_refused, words_refused, log_refused, architecture_refused, ending_of}
 use Rattle.archex_app.specs.Due.{Due, ends, unread}
-use Rattle.archex_app.specs.Words.{Asked, solve, check, probability, refused_words_text, files_of, files_read, files_written}
-use Rattle.archex_app.specs.Report.{ending_of}
+use Rattle.archex_app.specs.Words.{Asked, GenerateWords, solve, check, weigh, cuts, probability, template, rows, generate, files_of, files_read, files_written}
+use Rattle.report.specs.Refusal.{refused_words_text, refused_library_text, refused_architecture_text}
 use Rattle.log_checker.specs.declared.error.No.{No}
-use Rattle.archex_app.specs.Verdict.{IsPassing, IsBroken, yes_text, no_text}
-use Rattle.archex_app.specs.Mass.{IsSinkNamed, mass_text}
-use Rattle.archex_app.specs.Refusal.{refused_library_text, refused_architecture_text}
+use Rattle.archex_app.specs.Verdict.{IsPassing, IsBroken}
+use Rattle.report.specs.Verdict.{yes_text, no_text}
+use Rattle.archex_app.specs.Mass.{IsSinkNamed}
+use Rattle.report.specs.Mass.{mass_text}
 use Rattle.archex_app.specs.Endings.{endings_of}
-use Rattle.archex_app.specs.ComesTo.{ComesTo, CommandComesTo, EndsWith, Reads, ReadsAs, SearchComesTo, ALONE, VerdictComesTo, MassComesTo}
+use Rattle.archex_app.specs.ComesTo.{ComesTo, CommandComesTo, EndsWith, Reads, ReadsAs, OverLibrary, OverArchitecture, OverSink, SearchComesTo, ALONE, VerdictComesTo, WeighingComesTo, GenerationComesTo}
+use Rattle.archex_app.specs.Search.{base_problem}
 use Rattle.archex_app.specs.Run.{names_of}
 
 -- it ends with one of these endings, and reads and writes none but these files
@@ -117,7 +124,7 @@ Its told asked = Within (CommandComesTo told asked) (endings_of asked) (files_re
 pub at_0 : {X : Type 0} (x : X) (xs : List X) → Contains (x ∷ xs) x
 at_0 x xs = (0, omega arith, refl)
 
-at_1 : {X : Type 0} (w x : X) (xs : List X) → Contains (w ∷ x ∷ xs) x
+pub at_1 : {X : Type 0} (w x : X) (xs : List X) → Contains (w ∷ x ∷ xs) x
 at_1 w x xs = (1, omega arith, refl)
 
 at_2 : {X : Type 0} (v w x : X) (xs : List X) → Contains (v ∷ w ∷ x ∷ xs) x
@@ -141,15 +148,45 @@ search_within log limit workers analysts l reads = record {
 
 verdict_within : (l : LibraryParts) (bytes : List ℕ) (read written : List (List ℕ)) → Within (λ due. VerdictComesTo l bytes due) (done ∷ library_refused ∷ log_refused ∷ []) read written
 verdict_within l bytes read written =
-    either_within (λ due. (answer : Answer) × IsPassing l bytes answer × EndsWith done (yes_text answer) due) (λ due. (refused : No) × IsBroken l bytes refused × EndsWith log_refused (no_text refused) due) _ _ _
+    either_within (λ due. (answer : Answer) × IsPassing l bytes answer × EndsWith done (yes_text answer) due) (λ due. (refused : No) × IsBroken l bytes refused × EndsWith log_refused (no_text refused.line refused.rule) due) _ _ _
     (some_within (IsPassing l bytes) (λ (answer : Answer). EndsWith done (yes_text answer)) _ _ _ (λ answer. ends_within done _ _ _ _ (at_0 done (library_refused ∷ log_refused ∷ []))))
-    (some_within (IsBroken l bytes) (λ (refused : No). EndsWith log_refused (no_text refused)) _ _ _ (λ refused. ends_within log_refused _ _ _ _ (at_2 done library_refused log_refused [])))
+    (some_within (IsBroken l bytes) (λ (refused : No). EndsWith log_refused (no_text refused.line refused.rule)) _ _ _ (λ refused. ends_within log_refused _ _ _ _ (at_2 done library_refused log_refused [])))
 
-sink_within : (sink : List ℕ) (l : LibraryParts) (a : ArchitectureParts) (read written : List (List ℕ)) → Within (λ due. MassComesTo sink l a due) (done ∷ library_refused ∷ words_refused ∷ architecture_refused ∷ []) read written
-sink_within sink l a read written =
-    either_within (λ due. (s : ℕ) × IsSinkNamed l sink s × EndsWith done (mass_text (enclosure_of l a s)) due) (λ due. ((s : ℕ) → IsSinkNamed l sink s → ⊥) × EndsWith words_refused (refused_words_text 4) due) _ _ _
-    (some_within (IsSinkNamed l sink) (λ (s : ℕ). EndsWith done (mass_text (enclosure_of l a s))) _ _ _ (λ s. ends_within done _ _ _ _ (at_0 done (library_refused ∷ words_refused ∷ architecture_refused ∷ []))))
+sink_within : (name : List ℕ) (text : ℕ → List ℕ) (l : LibraryParts) (read written : List (List ℕ)) → Within (λ due. OverSink l name 4 (λ s. EndsWith done (text s)) due) (done ∷ library_refused ∷ words_refused ∷ architecture_refused ∷ []) read written
+sink_within name text l read written =
+    either_within (λ due. (s : ℕ) × IsSinkNamed l name s × EndsWith done (text s) due) (λ due. ((s : ℕ) → IsSinkNamed l name s → ⊥) × EndsWith words_refused (refused_words_text 4) due) _ _ _
+    (some_within (IsSinkNamed l name) (λ (s : ℕ). EndsWith done (text s)) _ _ _ (λ s. ends_within done _ _ _ _ (at_0 done (library_refused ∷ words_refused ∷ architecture_refused ∷ []))))
     (given_within (EndsWith words_refused (refused_words_text 4)) _ _ _ (ends_within words_refused _ _ _ _ (at_2 done library_refused words_refused (architecture_refused ∷ []))))
+
+-- a text of a sink of an architecture
+of_sink_within : (told : List ℕ → Option (List ℕ)) (lib arch name : List ℕ) (text : LibraryParts → ArchitectureParts → ℕ → List ℕ)
+    → Within (OverArchitecture told lib arch (λ l a. OverSink l name 4 (λ s. EndsWith done (text l a s)))) (done ∷ library_refused ∷ words_refused ∷ architecture_refused ∷ []) (lib ∷ arch ∷ []) []
+of_sink_within told lib arch name text =
+    reads_as_within library_of library_refused refused_library_text told lib (λ l. ReadsAs (architecture_of_bytes l) architecture_refused refused_architecture_text told arch (λ a. OverSink l name 4 (λ s. EndsWith done (text l a s)))) _ _ _ (at_0 lib (arch ∷ []))
+    (at_1 done library_refused (words_refused ∷ architecture_refused ∷ []))
+    (λ l. reads_as_within (architecture_of_bytes l) architecture_refused refused_architecture_text told arch (λ a. OverSink l name 4 (λ s. EndsWith done (text l a s))) _ _ _ (at_1 lib arch []) (at_3 done library_refused words_refused architecture_refused [])
+    (λ a. sink_within name (text l a) l _ _))
+
+weighing_within : (l : LibraryParts) (a : ArchitectureParts) (read written : List (List ℕ)) → Within (λ due. WeighingComesTo l a due) (done ∷ library_refused ∷ architecture_refused ∷ []) read written
+weighing_within l a read written =
+    some_within (IsFirstBroken l a) (λ (broken : Option ℕ). EndsWith done (weigh_text l a (weights_of l a) broken)) _ _ _ (λ broken. ends_within done _ _ _ _ (at_0 done (library_refused ∷ architecture_refused ∷ [])))
+
+-- a text of a library
+of_library_within : (told : List ℕ → Option (List ℕ)) (lib : List ℕ) (text : LibraryParts → List ℕ) → Within (OverLibrary told lib (λ l. EndsWith done (text l))) (done ∷ library_refused ∷ []) (lib ∷ []) []
+of_library_within told lib text =
+    reads_as_within library_of library_refused refused_library_text told lib (λ l. EndsWith done (text l)) _ _ _ (at_0 lib []) (at_1 done library_refused []) (λ l. ends_within done _ _ _ _ (at_0 done (library_refused ∷ [])))
+
+answer_ends : (answer : Answer) → Contains (done ∷ infeasible ∷ node_limit ∷ []) (ending_of answer)
+answer_ends (Optimal cost) = at_0 done (infeasible ∷ node_limit ∷ [])
+answer_ends Infeasible = at_1 done infeasible (node_limit ∷ [])
+answer_ends (NodeLimit incumbent) = at_2 done infeasible node_limit []
+
+generation_within : (ask : GenerateWords) → Within (λ due. GenerationComesTo ask due) (done ∷ infeasible ∷ node_limit ∷ []) [] (ask.file ∷ ask.log ∷ [])
+generation_within ask = record {
+  ending = λ e f t is. let P : Ending → Type 0 = Contains (done ∷ infeasible ∷ node_limit ∷ []) in subst P (sym (same_ending is.5)) (answer_ends is.3);
+  written = λ e f t name is has. let P : List (List ℕ × List ℕ) → Type 0 = λ l. Contains (names_of l) name in subst P (same_files is.5) has;
+  read = λ name is. absurd (no_read is.5);
+}
 
 pub command_within : (told : List ℕ → Option (List ℕ)) (asked : Asked) → Its told asked
 command_within told (solve ask) =
@@ -158,10 +195,14 @@ command_within told (solve ask) =
 command_within told (check lib log) =
     reads_as_within library_of library_refused refused_library_text told lib (λ l. Reads told log (VerdictComesTo l)) _ _ _ (at_0 lib (log ∷ [])) (at_1 done library_refused (log_refused ∷ []))
     (λ l. reads_within told log (VerdictComesTo l) _ _ _ (at_1 lib log []) (λ bytes. verdict_within l bytes _ _))
-command_within told (probability lib arch sink) =
-    reads_as_within library_of library_refused refused_library_text told lib (λ l. ReadsAs (architecture_of_bytes l) architecture_refused refused_architecture_text told arch (MassComesTo sink l)) _ _ _ (at_0 lib (arch ∷ []))
-    (at_1 done library_refused (words_refused ∷ architecture_refused ∷ []))
-    (λ l. reads_as_within (architecture_of_bytes l) architecture_refused refused_architecture_text told arch (MassComesTo sink l) _ _ _ (at_1 lib arch []) (at_3 done library_refused words_refused architecture_refused []) (λ a. sink_within sink l a _ _))
+command_within told (weigh lib arch) =
+    reads_as_within library_of library_refused refused_library_text told lib (λ l. ReadsAs (architecture_of_bytes l) architecture_refused refused_architecture_text told arch (WeighingComesTo l)) _ _ _ (at_0 lib (arch ∷ [])) (at_1 done library_refused (architecture_refused ∷ []))
+    (λ l. reads_as_within (architecture_of_bytes l) architecture_refused refused_architecture_text told arch (WeighingComesTo l) _ _ _ (at_1 lib arch []) (at_2 done library_refused architecture_refused []) (λ a. weighing_within l a _ _))
+command_within told (cuts lib arch sink) = of_sink_within told lib arch sink cuts_text
+command_within told (probability lib arch sink) = of_sink_within told lib arch sink (λ l a s. mass_text (enclosure_of l a s))
+command_within told (template lib) = of_library_within told lib template_text
+command_within told (rows lib) = of_library_within told lib (λ l. rows_text (base_problem l))
+command_within told (generate ask) = generation_within ask
 
 -- the words
 pub words_read : (told : List ℕ → Option (List ℕ)) (command : Result Asked ℕ) (name : List ℕ) → ComesTo told command (unread name) → Contains (files_of files_read command) name

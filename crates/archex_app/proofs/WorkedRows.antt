@@ -9,10 +9,10 @@ use Rattle.arch_csv.specs.declared.reader.TheConstants as arch_csv
 use Rattle.archex_app.specs.Status.{number_of, status_of, done, infeasible, node_limit, library_refused, words_refused, read_fault, write_fault, no_memory, log_refused, architecture_refused}
 use Rattle.archex_app.specs.Due.{ends, unread}
 use Rattle.search_core.specs.declared.limits.TheConstants.{BRANCHINGS, WORKERS}
-use Rattle.archex_app.specs.Words.{SolveWords, solve, probability, numeral, numbered, command_of, refused_words_text, files_of, files_read, files_written}
-use Rattle.archex_app.specs.Report.{infeasible_text}
+use Rattle.archex_app.specs.Words.{SolveWords, solve, probability, numeral, numbered, command_of, files_of, files_read, files_written}
+use Rattle.report.specs.Refusal.{refused_words_text, refused_architecture_text}
+use Rattle.report.specs.Report.{infeasible_text}
 use Rattle.archex_app.specs.ComesTo.{ComesTo}
-use Rattle.archex_app.specs.Refusal.{refused_architecture_text}
 use Rattle.arch_csv.specs.declared.fault.ArchClass.TheVariants.{Fields}
 
 -- the number of each ending

@@ -49,7 +49,7 @@ use Rattle.archex_app.specs.Status.{done}
 use Rattle.archex_app.specs.Due.{ends}
 use Rattle.archex_app.specs.Search.{base_problem, IsSearch, search_log}
 use Rattle.archex_app.specs.Searched.{IsLimitSpent}
-use Rattle.archex_app.specs.Report.{search_report}
+use Rattle.report.specs.Report.{search_report}
 use Rattle.archex_app.specs.ComesTo.{SearchComesTo}
 
 -- X: one component of cost 7, which is asked for

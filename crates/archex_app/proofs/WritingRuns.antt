@@ -1,25 +1,22 @@
--- From what came of a job and what was written to a run, for a command that writes one file before it prints.
-use Rattle.std.proofs.Common.{◌≡◌, ◌≢◌, ℕ, zero, suc, ◌<◌, ◌≤◌, Option, List, [], ◌∷◌, ◌++◌, IfSome, refl, sym, ap, subst, ◌∙◌, arith, inl, inr, ◌⊎◌}
-use Rattle.std.specs.Prelude.{Contains, slice_index_or, Result, Ok, Err, OnOk, OnErr, IsErrOf}
+-- From what came of a job and what was written to a run, for a command that writes files before it prints.
+use Rattle.std.proofs.Common.{◌≡◌, ◌≢◌, ℕ, ◌≤◌, Option, List, [], ◌∷◌, ◌++◌, IfSome, refl, sym, ap, subst, ◌∙◌, arith, inl, inr, ◌⊎◌}
+use Rattle.std.specs.Prelude.{Contains, Result, Ok, Err, OnOk, OnErr, IsErrOf}
+use Rattle.std.specs.List.{All}
+use Rattle.std.specs.Cow.{cow_slice_items}
+use Rattle.std.proofs.lemmas.List.Elements.{All-from_recursion}
 use Rattle.outside.specs.Faults.{Rose, NeverFall, Stay, ChangesOnly}
 use Rattle.archex_app.specs.declared.status.Status.{Status}
-use Rattle.archex_app.specs.declared.log_file.WriteError.{WriteError}
-use Rattle.archex_app.specs.declared.log_file.WriteError.TheVariants.{Memory, Failed}
+use Rattle.archex_app.specs.declared.outcome.Outcome.{Outcome}
+use Rattle.archex_app.specs.declared.writing.WriteError.{WriteError}
+use Rattle.archex_app.specs.declared.writing.WriteError.TheVariants.{Memory, Failed}
 use Rattle.archex_app.specs.Status.{Ending, status_of, write_fault, no_memory}
 use Rattle.archex_app.specs.Due.{Due, ends, IsSettled}
-use Rattle.archex_app.specs.Run.{Seen, names_of, OthersKeep, HoldsAll, HoldsFronts, IsRun}
+use Rattle.archex_app.specs.Run.{Seen, names_of, OthersKeep, IsRun}
 use Rattle.archex_app.specs.Inner.Outcome.{Printed}
-use Rattle.archex_app.specs.Inner.Log.{IsFrontOf}
+use Rattle.archex_app.specs.Inner.Log.{IsFrontOf, HoldBoth, HoldFronts, FailsAtOne, Concludes}
 use Rattle.archex_app.proofs.RunLaws.{Ended}
-use Rattle.archex_app.proofs.Within.{at_0}
-use Rattle.archex_app.proofs.Pieces.{on_err_map}
-
--- under one name at most something was written
-pub record Wrote (name : List ℕ) (before now : Seen) : Type 0 where
-  pub others : (other : List ℕ) → other ≢ name → now.told other ≡ before.told other
-  pub reads : Stay before.reads now.reads
-  pub rise : NeverFall before.writes now.writes
-  pub alone : ChangesOnly (name ∷ []) before.writes now.writes
+use Rattle.archex_app.proofs.Within.{at_0, at_1, only_one}
+use Rattle.archex_app.proofs.Pieces.{on_ok_map, on_err_map}
 
 -- after steps in which no count changed
 pub alone_from : (names : List (List ℕ)) (before mid now : List ℕ → ℕ) → Stay before mid → ChangesOnly names mid now → ChangesOnly names before now
@@ -34,113 +31,136 @@ rise_from before mid now stay rise = λ other. let e = stay other in let le = ri
 stay_from : (before mid now : List ℕ → ℕ) → Stay before mid → Stay mid now → Stay before now
 stay_from before mid now first second = λ other. second other ∙ first other
 
--- a file was written under a name, or wasn't, over a shelf that stayed as it was
-pub record WroteFile {T : Type 0} (written : Result T WriteError) (name file : List ℕ) (before now : Seen) : Type 0 where
-  pub wrote : Wrote name before now
-  pub whole : OnOk written (IfSome (now.told name) (λ bytes. bytes ≡ file) × Stay before.writes now.writes)
-  pub part : OnErr written (IsFrontOf (before.told name) (now.told name) file)
-  pub rose : IsErrOf written Failed → Rose (before.writes name) (now.writes name)
+-- files were written one after another, or weren't
+pub record WroteAll {T : Type 0} (written : Result T WriteError) (files : List (List ℕ × List ℕ)) (before now : Seen) : Type 0 where
+  pub others : OthersKeep (names_of files) before now
+  pub reads : Stay before.reads now.reads
+  pub rise : NeverFall before.writes now.writes
+  pub whole : OnOk written (All (λ (file : List ℕ × List ℕ). IfSome (now.told file.0) (λ bytes. bytes ≡ file.1)) files × Stay before.writes now.writes)
+  pub part : OnErr written (All (λ (file : List ℕ × List ℕ). (now.told file.0 ≡ before.told file.0) ⊎ IfSome (now.told file.0) (λ bytes. (rest : List ℕ) × (file.1 ≡ bytes ++ rest))) files)
+  pub failed : IsErrOf written Failed → FailsAtOne (names_of files) before.writes now.writes
   pub short : IsErrOf written Memory → Stay before.writes now.writes
 
 on_ok_both : {T E Q R : Type 0} (P : Type 0) (r : Result T E) → (Q → R) → OnOk r P → OnOk r Q → OnOk r (P × R)
 on_ok_both P (Ok x) f p q = (p, f q)
 on_ok_both P (Err e) f p q = tt
 
+-- other names than one keep their bytes
+not_one : (name other : List ℕ) → (Contains (name ∷ []) other → ⊥) → other ≢ name
+not_one name other none = λ is. none (subst (λ (n : List ℕ). Contains (name ∷ []) n) (sym is) (at_0 name []))
+
+-- a file was written under a name, or wasn't, over a shelf that stayed as it was
 pub file_after : {T : Type 0} (written : Result T WriteError) (name file : List ℕ) (before now : Seen) (told : List ℕ → Option (List ℕ)) (reads writes : List ℕ → ℕ) → ((n : List ℕ) → told n ≡ before.told n) → Stay before.reads reads → Stay before.writes writes
     → OnOk written (IfSome (now.told name) (λ bytes. bytes ≡ file)) → OnErr written (IsFrontOf (told name) (now.told name) file) → (IsErrOf written Failed → Rose (writes name) (now.writes name)) → ((other : List ℕ) → other ≢ name → now.told other ≡ told other)
-    → Stay reads now.reads → NeverFall writes now.writes → OnOk written (Stay writes now.writes) → (IsErrOf written Memory → Stay writes now.writes) → ChangesOnly (name ∷ []) writes now.writes → WroteFile written name file before now
+    → Stay reads now.reads → NeverFall writes now.writes → OnOk written (Stay writes now.writes) → (IsErrOf written Memory → Stay writes now.writes) → ChangesOnly (name ∷ []) writes now.writes → WroteAll written ((name, file) ∷ []) before now
 file_after written name file before now told reads writes same_told same_reads same_writes whole part rose others stay rise calm short alone = record {
-  wrote = record {
-    others = λ other ne. others other ne ∙ same_told other;
-    reads = stay_from before.reads reads now.reads same_reads stay;
-    rise = rise_from before.writes writes now.writes same_writes rise;
-    alone = alone_from (name ∷ []) before.writes writes now.writes same_writes alone;
-  };
-  whole = on_ok_both (IfSome (now.told name) (λ bytes. bytes ≡ file)) written (stay_from before.writes writes now.writes same_writes) whole calm;
-  part = on_err_map written (subst (λ (o : Option (List ℕ)). IsFrontOf o (now.told name) file) (same_told name)) part;
-  rose = λ failed. subst (λ (n : ℕ). Rose n (now.writes name)) (same_writes name) (rose failed);
+  others = λ other none. others other (not_one name other none) ∙ same_told other;
+  reads = stay_from before.reads reads now.reads same_reads stay;
+  rise = rise_from before.writes writes now.writes same_writes rise;
+  whole = on_ok_both (All (λ (f : List ℕ × List ℕ). IfSome (now.told f.0) (λ bytes. bytes ≡ f.1)) ((name, file) ∷ [])) written (stay_from before.writes writes now.writes same_writes)
+      (on_ok_map written (λ w. All-from_recursion (λ (f : List ℕ × List ℕ). IfSome (now.told f.0) (λ bytes. bytes ≡ f.1)) ((name, file) ∷ []) (w, tt)) whole) calm;
+  part = on_err_map written (λ p. All-from_recursion (λ (f : List ℕ × List ℕ). (now.told f.0 ≡ before.told f.0) ⊎ IfSome (now.told f.0) (λ bytes. (rest : List ℕ) × (f.1 ≡ bytes ++ rest))) ((name, file) ∷ [])
+      (subst (λ (o : Option (List ℕ)). IsFrontOf o (now.told name) file) (same_told name) p, tt)) part;
+  failed = λ failed. (name, at_0 name [], subst (λ (n : ℕ). Rose n (now.writes name)) (same_writes name) (rose failed), alone_from (name ∷ []) before.writes writes now.writes same_writes alone);
   short = λ wanting. stay_from before.writes writes now.writes same_writes (short wanting);
 }
 
--- the one file of a list
-of_one : (P : List ℕ × List ℕ → Type 0) (file d : List ℕ × List ℕ) (k : ℕ) → P file → k < 1 → P (slice_index_or (file ∷ []) k d)
-of_one P file d zero holds short = holds
-of_one P file d (suc k) holds short = absurd (omega arith)
+-- two files were, or weren't
+pub both_after : {T : Type 0} (written : Result T WriteError) (file text log entries : List ℕ) (before now : Seen) → OnOk written (HoldBoth now.told file text log entries) → OnErr written (HoldFronts before.told now.told file text log entries)
+    → (IsErrOf written Failed → FailsAtOne (file ∷ log ∷ []) before.writes now.writes) → ((other : List ℕ) → other ≢ file → other ≢ log → now.told other ≡ before.told other) → Stay before.reads now.reads → NeverFall before.writes now.writes
+    → OnOk written (Stay before.writes now.writes) → (IsErrOf written Memory → Stay before.writes now.writes) → WroteAll written ((file, text) ∷ (log, entries) ∷ []) before now
+both_after written file text log entries before now whole part failed others reads rise calm short = record {
+  others = λ other none. others other (λ is. none (0, omega arith, sym is)) (λ is. none (1, omega arith, sym is));
+  reads = reads;
+  rise = rise;
+  whole = on_ok_both (All (λ (f : List ℕ × List ℕ). IfSome (now.told f.0) (λ bytes. bytes ≡ f.1)) ((file, text) ∷ (log, entries) ∷ [])) written (λ s. s)
+      (on_ok_map written (λ w. All-from_recursion (λ (f : List ℕ × List ℕ). IfSome (now.told f.0) (λ bytes. bytes ≡ f.1)) ((file, text) ∷ (log, entries) ∷ []) (w.0, (w.1, tt))) whole) calm;
+  part = on_err_map written (λ p. All-from_recursion (λ (f : List ℕ × List ℕ). (now.told f.0 ≡ before.told f.0) ⊎ IfSome (now.told f.0) (λ bytes. (rest : List ℕ) × (f.1 ≡ bytes ++ rest))) ((file, text) ∷ (log, entries) ∷ []) (p.0, (p.1, tt))) part;
+  failed = failed;
+  short = short;
+}
 
--- other names keep their bytes
-keep : (name : List ℕ) (before now : Seen) → Wrote name before now → OthersKeep (name ∷ []) before now
-keep name before now wrote = λ other none. wrote.others other (λ is. none (subst (λ (n : List ℕ). Contains (name ∷ []) n) (sym is) (at_0 name [])))
+-- the second of two files couldn't be written
+pub second_fails : (file log : List ℕ) (before mid now : List ℕ → ℕ) → Stay before mid → Rose (mid log) (now log) → ChangesOnly (log ∷ []) mid now → FailsAtOne (file ∷ log ∷ []) before now
+second_fails file log before mid now stay rose alone =
+    let P : ℕ → Type 0 = λ n. Rose n (now log) in
+    (log, at_1 file log [], subst P (stay log) rose, alone_from (log ∷ []) before mid now stay alone)
 
-module _ (Comes : Due → Type 0) (read : List (List ℕ)) (name file text : List ℕ) (ending : Ending) (before now : Seen) where
-  run_with : (status : Status) → Wrote name before now → before.prints ≤ now.prints → Ended Comes status before now → IsRun Comes read (name ∷ []) status before now
-  run_with status wrote prints ended = record {
-    ended = ended;
-    reads_alone = λ other. inl (wrote.reads other);
-    writes_alone = wrote.alone;
-    kept = keep name before now wrote;
-    reads_never_fall = λ other. let e = wrote.reads other in omega arith;
-    writes_never_fall = wrote.rise;
-    never_falls = prints;
-  }
+-- a write fault changes the count of one name, and other ends none
+changes_among : (names : List (List ℕ)) (before now : List ℕ → ℕ) → FailsAtOne names before now → ChangesOnly names before now
+changes_among names before now failed = λ other. elim (failed.3 other) [
+  | inl same ↦ inl same
+  | inr one ↦ let P : List ℕ → Type 0 = Contains names in inr (one.0, subst P (sym (only_one failed.0 one.0 one.1)) failed.1, one.2, one.3)
+]
 
-  holds_all : Wrote name before now → IfSome (now.told name) (λ bytes. bytes ≡ file) → HoldsAll ((name, file) ∷ []) before now
-  holds_all wrote whole = record { whole = λ k d short. of_one (λ (f : List ℕ × List ℕ). IfSome (now.told f.0) (λ bytes. bytes ≡ f.1)) (name, file) d k whole short; others = keep name before now wrote }
+writes_alone : {T : Type 0} (written : Result T WriteError) (files : List (List ℕ × List ℕ)) (before now : Seen) → WroteAll written files before now → ChangesOnly (names_of files) before.writes now.writes
+writes_alone (Ok x) files before now wrote = λ other. inl (wrote.whole.1 other)
+writes_alone (Err Failed) files before now wrote = changes_among (names_of files) before.writes now.writes (wrote.failed refl)
+writes_alone (Err Memory) files before now wrote = λ other. inl (wrote.short refl other)
 
-  holds_fronts : Wrote name before now → IsFrontOf (before.told name) (now.told name) file → HoldsFronts ((name, file) ∷ []) before now
-  holds_fronts wrote part = record {
-    fronts = λ k d short. of_one (λ (f : List ℕ × List ℕ). (now.told f.0 ≡ before.told f.0) ⊎ IfSome (now.told f.0) (λ bytes. (rest : List ℕ) × (f.1 ≡ bytes ++ rest))) (name, file) d k part short;
-    others = keep name before now wrote;
-  }
-
-  -- the file is whole, and the text was printed, or a front of it
-  printed_after : (due status : Status) → IsSettled ending → due ≡ status_of ending → Comes (ends ending ((name, file) ∷ []) text) → Wrote name before now → IfSome (now.told name) (λ bytes. bytes ≡ file) → Stay before.writes now.writes
-      → Printed due text status before.printed now.printed before.prints now.prints → Ended Comes status before now
-  printed_after due status settled is comes wrote whole writes printed = elim printed [
+module _ (Comes : Due → Type 0) (files : List (List ℕ × List ℕ)) (outcome : Outcome) (ending : Ending) (status : Status) (before now : Seen) (settled : IsSettled ending) (ended_so : outcome.status ≡ status_of ending) (comes : Comes (ends ending files (cow_slice_items outcome.text))) where
+  -- the files are whole, and the text was printed, or a front of it
+  printed_after : {T : Type 0} (x : T) → WroteAll (Ok x) files before now → Printed outcome.status (cow_slice_items outcome.text) status before.printed now.printed before.prints now.prints → Ended Comes status before now
+  printed_after x wrote printed = elim printed [
     | inl all ↦ inl (record {
       ending = ending;
       settled = settled;
-      ended_so = all.0 ∙ is;
-      files = (name, file) ∷ [];
-      text = text;
+      ended_so = all.0 ∙ ended_so;
+      files = files;
+      text = cow_slice_items outcome.text;
       due = comes;
       printed = all.1;
-      holds = holds_all wrote whole;
-      calm = record { reads = wrote.reads; writes = writes; prints = all.2 };
+      holds = record { whole = wrote.whole.0; others = wrote.others };
+      calm = record { reads = wrote.reads; writes = wrote.whole.1; prints = all.2 };
     })
     | inr part ↦ inr (inr (inl (record {
       ended_so = part.0;
       ending = ending;
-      files = (name, file) ∷ [];
-      text = text;
+      files = files;
+      text = cow_slice_items outcome.text;
       due = comes;
-      cause = inr (record { rose = part.1; writes = writes; printed = part.2; holds = holds_all wrote whole });
+      cause = inr (record { rose = part.1; writes = wrote.whole.1; printed = part.2; holds = record { whole = wrote.whole.0; others = wrote.others } });
       reads = wrote.reads;
     })))
   ]
 
-  pub written_run : (due status : Status) → IsSettled ending → due ≡ status_of ending → Comes (ends ending ((name, file) ∷ []) text) → Wrote name before now → IfSome (now.told name) (λ bytes. bytes ≡ file) → Stay before.writes now.writes
-      → Printed due text status before.printed now.printed before.prints now.prints → before.prints ≤ now.prints → IsRun Comes read (name ∷ []) status before now
-  written_run due status settled is comes wrote whole writes printed rise = run_with status wrote rise (printed_after due status settled is comes wrote whole writes printed)
+  ended_after : {T : Type 0} (written : Result T WriteError) → WroteAll written files before now → Concludes written outcome status before.printed now.printed before.prints now.prints → Ended Comes status before now
+  ended_after (Ok x) wrote concludes = printed_after x wrote concludes
+  ended_after (Err Failed) wrote concludes =
+      let failed = wrote.failed refl in
+      inr (inr (inl (record {
+        ended_so = concludes.0;
+        ending = ending;
+        files = files;
+        text = cow_slice_items outcome.text;
+        due = comes;
+        cause = inl (record {
+          name = failed.0;
+          due = failed.1;
+          rose = failed.2;
+          writes = failed.3;
+          prints = concludes.2;
+          printed = concludes.1;
+          holds = record { fronts = wrote.part; others = wrote.others };
+        });
+        reads = wrote.reads;
+      })))
+  ended_after (Err Memory) wrote concludes = inr (inr (inr (record {
+    ended_so = concludes.0;
+    printed = concludes.1;
+    holds = inr (ending, files, cow_slice_items outcome.text, comes, record { fronts = wrote.part; others = wrote.others });
+    calm = record { reads = wrote.reads; writes = wrote.short refl; prints = concludes.2 };
+  })))
 
-  -- a write of the file failed
-  pub cut_run : Comes (ends ending ((name, file) ∷ []) text) → Wrote name before now → IsFrontOf (before.told name) (now.told name) file → Rose (before.writes name) (now.writes name) → now.printed ≡ before.printed → now.prints ≡ before.prints
-      → IsRun Comes read (name ∷ []) (status_of write_fault) before now
-  cut_run comes wrote part rose printed prints = run_with (status_of write_fault) wrote (omega arith) (inr (inr (inl (record {
-    ended_so = refl;
-    ending = ending;
-    files = (name, file) ∷ [];
-    text = text;
-    due = comes;
-    cause = inl (record { name = name; due = at_0 name []; rose = rose; writes = wrote.alone; prints = prints; printed = printed; holds = holds_fronts wrote part });
-    reads = wrote.reads;
-  }))))
-
-  -- memory was wanting while it was written
-  pub short_run : Comes (ends ending ((name, file) ∷ []) text) → Wrote name before now → IsFrontOf (before.told name) (now.told name) file → Stay before.writes now.writes → now.printed ≡ before.printed → now.prints ≡ before.prints
-      → IsRun Comes read (name ∷ []) (status_of no_memory) before now
-  short_run comes wrote part writes printed prints = run_with (status_of no_memory) wrote (omega arith) (inr (inr (inr (record {
-    ended_so = refl;
-    printed = printed;
-    holds = inr (ending, (name, file) ∷ [], text, comes, holds_fronts wrote part);
-    calm = record { reads = wrote.reads; writes = writes; prints = prints };
-  }))))
+  -- a run that wrote its files, or didn't, and then printed, or didn't
+  pub concluded_run : {T : Type 0} (read : List (List ℕ)) (written : Result T WriteError) → WroteAll written files before now → Concludes written outcome status before.printed now.printed before.prints now.prints → before.prints ≤ now.prints
+      → IsRun Comes read (names_of files) status before now
+  concluded_run read written wrote concludes prints = record {
+    ended = ended_after written wrote concludes;
+    reads_alone = λ other. inl (wrote.reads other);
+    writes_alone = writes_alone written files before now wrote;
+    kept = wrote.others;
+    reads_never_fall = λ other. let e = wrote.reads other in omega arith;
+    writes_never_fall = wrote.rise;
+    never_falls = prints;
+  }

@@ -5,9 +5,12 @@ use Rattle.arch_model.specs.Parts.{LibraryParts, ArchitectureParts}
 use Rattle.incumbent.specs.declared.best.Best.{Best}
 use Rattle.outside.specs.Told.{Appends}
 use Rattle.lib_read.specs.LibraryOf.{library_of}
+use Rattle.arch_csv.specs.ArchitectureOf.{architecture_of_bytes}
+use Rattle.arch_csv.specs.declared.fault.ArchFault.{ArchFault}
 use Rattle.archex_app.specs.Cheapest.{IsCheapest}
-use Rattle.archex_app.specs.Report.{optimal_text, infeasible_text, node_limit_text}
-use Rattle.archex_app.specs.Refusal.{refused_library_text}
+use Rattle.report.specs.Report.{optimal_text, infeasible_text, node_limit_text}
+use Rattle.report.specs.Refusal.{refused_library_text, refused_architecture_text, refused_words_text}
+use Rattle.archex_app.specs.Mass.{IsSinkNamed}
 use Rattle.lib_read.specs.declared.fault.LibFault.{LibFault}
 
 -- the bytes are a library, and the text is the report of an admissible architecture of least cost
@@ -43,6 +46,23 @@ pub record ShowsRefusal (bytes text : List ℕ) : Type 0 where
   pub fault : LibFault
   pub refused : library_of bytes ≡ Err fault
   pub report : text ≡ refused_library_text fault
+
+-- the bytes are a library and no architecture of it, and the text names their first fault
+pub record RefusesArchitecture (lib_bytes arch_bytes text : List ℕ) : Type 0 where
+  pub lib : LibraryParts
+  pub lib_read : library_of lib_bytes ≡ Ok lib
+  pub fault : ArchFault
+  pub refused : architecture_of_bytes lib arch_bytes ≡ Err fault
+  pub report : text ≡ refused_architecture_text fault
+
+-- the bytes are a library and an architecture of it, no component of role sink has the name, and the text refuses the words for its place
+pub record RefusesSink (name lib_bytes arch_bytes text : List ℕ) : Type 0 where
+  pub lib : LibraryParts
+  pub lib_read : library_of lib_bytes ≡ Ok lib
+  pub arch : ArchitectureParts
+  pub arch_read : architecture_of_bytes lib arch_bytes ≡ Ok arch
+  pub none : (sink : ℕ) → IsSinkNamed lib name sink → ⊥
+  pub report : text ≡ refused_words_text 4
 
 -- a text that shows one of the four
 abbrev pub ShowsReport : ℕ → List ℕ → List ℕ → Type 0

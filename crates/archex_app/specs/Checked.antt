@@ -12,7 +12,8 @@ use Rattle.log_checker.specs.Yes.{IsCostOfOne, IsLeastCost, last_limit}
 use Rattle.archex_app.specs.declared.status.Status.{Status}
 use Rattle.archex_app.specs.Status.{status_of, done, library_refused, log_refused, no_memory}
 use Rattle.archex_app.specs.Search.{base_problem}
-use Rattle.archex_app.specs.Verdict.{IsBroken, yes_text, no_text}
+use Rattle.archex_app.specs.Verdict.{IsBroken}
+use Rattle.report.specs.Verdict.{yes_text, no_text}
 
 -- an answer is right for a library: some admissible architecture has its cost and none costs less; none is admissible; or the cost that it names is that of an admissible one
 abbrev pub IsRight : LibraryParts → Answer → Type 0
@@ -39,7 +40,7 @@ pub record ShowsNo (lib_bytes log_bytes text : List ℕ) : Type 0 where
   pub refused : No
   pub first : IsBroken lib log_bytes refused
   pub fails : (answer : Answer) → Accepts (base_problem lib) log_bytes answer → ⊥
-  pub report : text ≡ no_text refused
+  pub report : text ≡ no_text refused.line refused.rule
 
 -- which status comes of these bytes: bytes that aren't a library are refused; a log that passes is done, and another is refused
 abbrev pub CheckEnds : List ℕ → List ℕ → Status → Type 0

@@ -2,6 +2,5 @@
 pub mod Outcome
 pub mod Reading
 pub mod Checking
-pub mod Report
 pub mod Searched
 pub mod Log

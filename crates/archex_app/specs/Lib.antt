@@ -2,11 +2,9 @@ pub mod Status
 pub mod Words
 pub mod Commands
 pub mod Cheapest
-pub mod Report
 pub mod Search
 pub mod Verdict
 pub mod Mass
-pub mod Refusal
 pub mod Due
 pub mod ComesTo
 pub mod Endings
@@ -14,6 +12,10 @@ pub mod Run
 pub mod Answer
 pub mod Checked
 pub mod MassAnswer
+pub mod Weighed
+pub mod CutsListed
+pub mod Listed
 pub mod Complete
 pub mod Searched
+pub mod Generated
 pub mod Inner

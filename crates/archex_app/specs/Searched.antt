@@ -22,10 +22,10 @@ use Rattle.search_core.specs.Invariant.{IsAdmissibleBest, HoldsInAll}
 use Rattle.search_core.specs.Solved.{IsLeastBest, NoneAdmissible}
 use Rattle.proof_log.specs.Log.{Accepts}
 use Rattle.archex_app.specs.declared.status.Status.{Status}
-use Rattle.archex_app.specs.Status.{status_of, done, infeasible, node_limit}
+use Rattle.archex_app.specs.Status.{status_of, done, infeasible, node_limit, ending_of}
 use Rattle.archex_app.specs.Words.{SolveWords}
 use Rattle.archex_app.specs.Answer.{ShowsRefusal, PrintsFront}
-use Rattle.archex_app.specs.Report.{ending_of, search_report}
+use Rattle.report.specs.Report.{search_report}
 use Rattle.archex_app.specs.Search.{base_problem, IsSearch, search_log}
 
 -- a run of `solve` came to an answer: Optimal, Infeasible or NodeLimit

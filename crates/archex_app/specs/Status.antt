@@ -1,10 +1,12 @@
 -- How a run ends, and the numbers that say it.
 use Rattle.std.specs.Prelude.{ℕ}
+use Rattle.search_core.specs.declared.answer.Answer.{Answer}
+use Rattle.search_core.specs.declared.answer.Answer.TheVariants.{Optimal, Infeasible, NodeLimit}
 use Rattle.archex_app.specs.declared.status.Status.{Status}
 
 -- how a run may end
 pub data Ending : Type 0 where
-  -- the command did what it is for: `solve` printed a cheapest architecture, `check` said yes to a log, `probability` printed two bounds
+  -- the command did what it is for: `solve` and `generate` found a cheapest architecture, `check` said yes to a log, and the others printed what they were asked for
   done : Ending
   -- no architecture meets the patterns and bounds
   infeasible : Ending
@@ -41,3 +43,9 @@ number_of architecture_refused = 9
 -- as a status
 abbrev pub status_of : Ending → Status
 status_of ending = record { 0 = number_of ending }
+
+-- how a run ends that came to an answer
+abbrev pub ending_of : Answer → Ending
+ending_of (Optimal cost) = done
+ending_of Infeasible = infeasible
+ending_of (NodeLimit incumbent) = node_limit

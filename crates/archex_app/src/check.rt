@@ -11,11 +11,11 @@ ghost use Rattle.archex_app.specs.Inner.Checking.{HasFed, FeedsOn, OfBytes, Halt
 use crate::library::library_under;
 use crate::outcome::{Outcome, Stop, finish};
 use crate::status::Status;
-use crate::verdict::{no_text, yes_text};
 use arch_model::Memory;
 use binary_program::problem_of;
 use log_checker::{CheckError, LOG_BYTES, No, TextChecker};
 use outside::{Failed, Shelf, Sink};
+use report::{no_text, yes_text};
 use rows::{Problem, variable_count};
 use search_core::Answer;
 use std::alloc::{AllocError, Global};
@@ -130,10 +130,11 @@ fn judge<F: Shelf>(
 fn passed(alloc: Global, answer: Answer) -> Result<Outcome, Memory>
     ensures { IfOk result (λ outcome. Tells (Ok answer) (Ok outcome)) }
 {
-    let text = yes_text(alloc, answer)?;
+    let mut text = Vec::new(alloc);
+    yes_text(&answer, &mut text)?;
     Ok(Outcome {
         status: Status::DONE,
-        text: CowSlice::Owned(text.into_bytes()),
+        text: CowSlice::Owned(text),
     })
 }
 
@@ -141,10 +142,11 @@ fn passed(alloc: Global, answer: Answer) -> Result<Outcome, Memory>
 fn broken(alloc: Global, refused: No) -> Result<Outcome, Memory>
     ensures { IfOk result (λ outcome. Tells (Err (Halt.No refused)) (Ok outcome)) }
 {
-    let text = no_text(alloc, refused)?;
+    let mut text = Vec::new(alloc);
+    no_text(refused.line, refused.rule, &mut text)?;
     Ok(Outcome {
         status: Status::LOG_REFUSED,
-        text: CowSlice::Owned(text.into_bytes()),
+        text: CowSlice::Owned(text),
     })
 }
 

@@ -26,21 +26,26 @@
 
 mod architecture;
 mod check;
+mod cuts;
+mod generation;
 mod library;
 mod log_file;
 mod outcome;
 mod printing;
 mod probability;
 mod reading;
-mod refusal;
-mod report;
+mod row_list;
 mod run;
+mod search;
 mod sink;
 mod solve;
 mod status;
 mod sure;
-mod verdict;
+mod template_list;
+mod weigh;
+mod weights;
 mod words;
+mod writing;
 
 pub use run::run_plain;
 pub use status::Status;
@@ -55,6 +60,10 @@ mod tests_of_cubes;
 mod tests_of_cuts;
 #[cfg(test)]
 mod tests_of_examples;
+#[cfg(test)]
+mod tests_of_generated;
+#[cfg(test)]
+mod tests_of_listings;
 #[cfg(test)]
 mod tests_of_logs;
 #[cfg(test)]

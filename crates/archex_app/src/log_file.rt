@@ -7,6 +7,7 @@ ghost use Rattle.proof_log.specs.Value.{ended, entry_text, header_text, closing_
 ghost use Rattle.proof_log.specs.Log.{log_text_of};
 ghost use Rattle.archex_app.specs.Inner.Log.{IsAppended, IsAppendedSome, IsFrontOf, entry_lines};
 
+use crate::writing::{WriteError, append_all};
 use outside::{Failed, Shelf};
 use proof_log::{closing, header, write_entry};
 use rows::Problem;
@@ -16,52 +17,6 @@ use worker_team::Solved;
 
 /// A piece is appended to the file once it has at least this many bytes.
 const PIECE: usize = 65536;
-
-/// Why a file couldn't be written.
-#[derive(Clone, Copy)]
-pub enum WriteError {
-    Memory,
-    Failed,
-}
-
-impl From<AllocError> for WriteError {
-    ghost use Rattle.archex_app.specs.declared.log_file.WriteError.TheVariants.{Memory};
-
-    ghost from_gives = { λ _ e. e ≡ Memory };
-
-    fn from(_error: AllocError) -> WriteError {
-        WriteError::Memory
-    }
-}
-
-impl From<Failed> for WriteError {
-    ghost use Rattle.archex_app.specs.declared.log_file.WriteError.TheVariants.{Failed};
-
-    ghost from_gives = { λ _ e. e ≡ Failed };
-
-    fn from(_error: Failed) -> WriteError {
-        WriteError::Failed
-    }
-}
-
-// Appends all of a text to a file.
-fn append_all<F: Shelf>(shelf: &mut F, name: &str, text: &[u8]) -> Result<(), Failed>
-    ensures whole { OnOk result (Appends (F.told shelf.old name.now) (F.told shelf.new name.now) text.now) }
-    ensures part { OnErr result (IsAppendedSome (F.told shelf.old name.now) (F.told shelf.new name.now) text.now) }
-    ensures failed { OnErr result (Rose (F.write_faults shelf.old name.now) (F.write_faults shelf.new name.now)) }
-
-    ensures told_stays { (other : List ℕ) → other ≢ name.now → F.told shelf.new other ≡ F.told shelf.old other }
-    ensures reads_stay { Stay (F.read_faults shelf.old) (F.read_faults shelf.new) }
-    ensures writes_never_fall { (other : List ℕ) → F.write_faults shelf.old other ≤ F.write_faults shelf.new other }
-    ensures writes_stay { OnOk result (Stay (F.write_faults shelf.old) (F.write_faults shelf.new)) }
-    ensures writes_alone { ChangesOnly (name.now ∷ []) (F.write_faults shelf.old) (F.write_faults shelf.new) }
-{
-    let mut done = 0;
-    while done < text.len() {
-        done += shelf.append(name, &text[done..])?;
-    }
-    Ok(())
-}
 
 // Appends what a buffer has to a file, once it is a piece.
 fn flush<F: Shelf>(shelf: &mut F, name: &str, buffer: &mut Vec<u8>) -> Result<(), Failed>

@@ -3,10 +3,12 @@ ghost use Rattle.std.specs.Prelude.{◌≡◌, ℕ, ◌≤◌, List, ◌++◌, �
 ghost use Rattle.outside.specs.Faults.{Rose};
 ghost use Rattle.outside.specs.Told.{Appends};
 ghost use Rattle.archex_app.specs.Inner.Outcome.{Finishes, Printed};
+ghost use Rattle.archex_app.specs.Inner.Log.{Concludes};
 
 use crate::printing::print_all;
 use crate::reading::ReadError;
 use crate::status::Status;
+use crate::writing::WriteError;
 use outside::Sink;
 use std::alloc::{AllocError, Global};
 use std::borrow::CowSlice;
@@ -77,5 +79,18 @@ pub fn finish<O: Sink>(out: &mut O, outcome: Result<Outcome, Stop>) -> Status
         }
         Err(Stop::Unread) => Status::READ_FAULT,
         Err(Stop::NoMemory) => Status::NO_MEMORY,
+    }
+}
+
+/// Ends a run whose files were written, or weren't: only a run with whole files prints.
+pub fn conclude<O: Sink>(out: &mut O, written: Result<(), WriteError>, report: Outcome) -> Status
+    ensures concludes { Concludes written report result
+        (O.told out.old) (O.told out.new) (O.faults out.old) (O.faults out.new) }
+    ensures never_falls { O.faults out.old ≤ O.faults out.new }
+{
+    match written {
+        Ok(()) => print(out, report.text.as_slice(), report.status),
+        Err(WriteError::Failed) => Status::WRITE_FAULT,
+        Err(WriteError::Memory) => Status::NO_MEMORY,
     }
 }

@@ -1,7 +1,7 @@
 // What `probability` does.
-ghost use Rattle.std.specs.Prelude.{◌≡◌, ℕ, ◌≤◌, ◌++◌, List, Ok, IfOk, string_bytes};
+ghost use Rattle.std.specs.Prelude.{◌≡◌, ℕ, ◌≤◌, List, Ok, IfOk};
 ghost use Rattle.outside.specs.Faults.{Stay};
-ghost use Rattle.archex_app.specs.Mass as spec;
+ghost use Rattle.report.specs.Mass as spec;
 ghost use Rattle.archex_app.specs.Words.{probability};
 ghost use Rattle.archex_app.specs.ComesTo.{CommandComesTo};
 ghost use Rattle.archex_app.specs.Run.{Runs, seen};
@@ -10,24 +10,22 @@ ghost use Rattle.archex_app.specs.Inner.Outcome.{Settles};
 use crate::architecture::architecture_under;
 use crate::library::library_under;
 use crate::outcome::{Outcome, Stop, finish};
-use crate::sink::sink_named;
+use crate::sink::{SINK_PLACE, sink_named};
 use crate::status::Status;
 use arch_model::Memory;
 use fail_mass::enclose;
 use outside::{Shelf, Sink};
+use report::mass_text;
 use std::alloc::Global;
 use std::borrow::CowSlice;
 
-/// The place of the sink's name among the words.
-const SINK_PLACE: u32 = 4;
-
 // The line with the two bounds.
-fn mass_text(alloc: Global, bounds: (u64, u64)) -> Result<String, Memory>
-    ensures { IfOk result (λ text. string_bytes text ≡ spec.mass_text bounds) }
+fn mass_line(alloc: Global, bounds: (u64, u64)) -> Result<Vec<u8>, Memory>
+    ensures { IfOk result (λ text. text.items ≡ spec.mass_text bounds) }
 {
     let (low, high) = bounds;
-    let mut text = String::new(alloc);
-    write!(text, "mass {low} {high}\n")?;
+    let mut text = Vec::new(alloc);
+    mass_text(low, high, &mut text)?;
     Ok(text)
 }
 
@@ -49,10 +47,10 @@ fn come_to<F: Shelf>(
     let library = library_under(alloc, shelf, lib)?;
     let architecture = architecture_under(alloc, shelf, &library, arch)?;
     let component = sink_named(alloc, &library, sink, SINK_PLACE)?;
-    let text = mass_text(alloc, enclose(&library, &architecture, component))?;
+    let text = mass_line(alloc, enclose(&library, &architecture, component))?;
     Ok(Outcome {
         status: Status::DONE,
-        text: CowSlice::Owned(text.into_bytes()),
+        text: CowSlice::Owned(text),
     })
 }
 

@@ -6,30 +6,44 @@ ghost use Rattle.arch_model.specs.Parts.{LibraryParts};
 ghost use Rattle.arch_model.specs.Member.{member_count};
 ghost use Rattle.lib_read.specs.LibraryOf.{library_of};
 ghost use Rattle.lib_read.specs.declared.fault.LibFault.{LibFault};
+ghost use Rattle.report.specs.Refusal.{refused_words_text};
 ghost use Rattle.archex_app.specs.Words.{texts, command_of, files_of, files_read, files_written};
-ghost use Rattle.archex_app.specs.Words.{SolveWords, AskToSolve, AskToCheck, AskForMass, refused_words_text};
+ghost use Rattle.archex_app.specs.Words.{SolveWords, GenerateWords, AskToSolve, AskToCheck, AskToWeigh};
+ghost use Rattle.archex_app.specs.Words.{AskForCuts, AskForMass, AskForTemplate, AskForRows, AskToGenerate};
+ghost use Rattle.archex_app.specs.Words.{AskOfSink, AskOfArchitecture, AskForList, ReadsLibrary};
 ghost use Rattle.archex_app.specs.Status.{status_of, done, infeasible, node_limit, library_refused, log_refused};
 ghost use Rattle.archex_app.specs.Status.{words_refused};
 ghost use Rattle.archex_app.specs.Status.{read_fault, write_fault, no_memory, architecture_refused};
 ghost use Rattle.archex_app.specs.Endings.{MayEnd};
 ghost use Rattle.archex_app.specs.Run.{Runs, RoseAmong, seen};
-ghost use Rattle.archex_app.specs.Complete.{Completes};
+ghost use Rattle.archex_app.specs.Complete.{Completes, UnlessNoMemory, CompletesGeneration};
+ghost use Rattle.archex_app.specs.Complete.{EndsOverLibrary, EndsOverArchitecture, EndsOverSink};
 ghost use Rattle.archex_app.specs.Answer.{ShowsCheapest, ShowsInfeasible, ShowsNodeLimit, ShowsRefusal};
+ghost use Rattle.archex_app.specs.Answer.{RefusesArchitecture, RefusesSink};
 ghost use Rattle.archex_app.specs.Answer.{ShowsReport, Prints, PrintsOver, PrintsFront};
 ghost use Rattle.archex_app.specs.Searched.{Answered, ShowsSearch, LeavesLog, CutsText};
 ghost use Rattle.archex_app.specs.ComesTo.{ALONE};
 ghost use Rattle.archex_app.specs.Checked.{ShowsYes, ShowsNo, CompletesCheck};
-ghost use Rattle.archex_app.specs.MassAnswer.{ShowsMass, RefusesArchitecture, RefusesSink, CompletesMass};
+ghost use Rattle.archex_app.specs.Weighed.{ShowsWeighing};
+ghost use Rattle.archex_app.specs.CutsListed.{ShowsCuts};
+ghost use Rattle.archex_app.specs.MassAnswer.{ShowsMass};
+ghost use Rattle.archex_app.specs.Listed.{ShowsTemplate, ShowsRows};
+ghost use Rattle.archex_app.specs.Generated.{ShowsGenerated, LeavesGenerated, CutsSummary};
 ghost use Rattle.archex_app.specs.Inner.Outcome.{Printed};
 
 use crate::check::check_log;
+use crate::cuts::list_cuts;
+use crate::generation::generate_library;
 use crate::outcome::print;
 use crate::probability::enclose_mass;
-use crate::refusal::words_line;
+use crate::row_list::list_rows;
 use crate::solve::solve_library;
 use crate::status::Status;
+use crate::template_list::list_template;
+use crate::weigh::weigh_architecture;
 use crate::words::{Command, WordFault, read_words};
 use outside::{Shelf, Sink};
+use report::words_line;
 use std::alloc::Global;
 
 // Prints that the words are refused, and for which place. It takes no memory.
@@ -67,9 +81,21 @@ fn run_command<F: Shelf, O: Sink>(
             },
         ) => solve_library(alloc, lib, log, branchings, shelf, out),
         Ok(Command::Check { lib, log }) => check_log(alloc, lib, log, shelf, out),
+        Ok(Command::Weigh { lib, arch }) => weigh_architecture(alloc, lib, arch, shelf, out),
+        Ok(Command::Cuts { lib, arch, sink }) => list_cuts(alloc, lib, arch, sink, shelf, out),
         Ok(Command::Probability { lib, arch, sink }) => {
             enclose_mass(alloc, lib, arch, sink, shelf, out)
         }
+        Ok(Command::Template { lib }) => list_template(alloc, lib, shelf, out),
+        Ok(Command::Rows { lib }) => list_rows(alloc, lib, shelf, out),
+        Ok(
+            Command::Generate {
+                number,
+                size,
+                file,
+                log,
+            },
+        ) => generate_library(alloc, number, size, file, log, shelf, out),
         Err(fault) => refuse_words(out, fault),
     }
 }
@@ -78,9 +104,12 @@ fn run_command<F: Shelf, O: Sink>(
 /// library LIB from the shelf, searches for an architecture of least cost among all that meet its
 /// patterns and keep its bounds on weights, for at most BRANCHINGS branchings, writes the log of the
 /// search under LOG, and prints a report to the sink. `check LIB LOG` says whether the log passes for
-/// the library, and with which answer, or which line is the first to break a rule. `probability LIB
-/// ARCH SINK` reads a library and an architecture of it, and prints two bounds of the failure mass of
-/// a sink.
+/// the library, and with which answer, or which line is the first to break a rule. `weigh LIB ARCH`
+/// reads a library and an architecture of it, and prints what this comes to; `cuts LIB ARCH SINK`
+/// lists the minimal cut sets of a sink, and `probability LIB ARCH SINK` gives two bounds of its failure
+/// mass. `template LIB` lists the components and edges of a library, and `rows LIB` its base rows.
+/// `generate NUMBER SIZE OUT LOG` makes a library from a number, writes it under OUT, and searches it
+/// as `solve` does.
 ///
 /// It returns for all arguments; want of memory alone is free to come anywhere, but for words that
 /// are refused, which take none.
@@ -106,8 +135,6 @@ pub fn run_plain<F: Shelf, O: Sink>(
         → Prints ShowsInfeasible (F.told shelf.old ask.lib) (O.told out.old) (O.told out.new) }
     ensures limit_met { (ask : SolveWords) → AskToSolve (texts words.now) ask → result ≡ status_of node_limit
         → Prints (ShowsNodeLimit ask.branchings) (F.told shelf.old ask.lib) (O.told out.old) (O.told out.new) }
-    ensures refused_library { (ask : SolveWords) → AskToSolve (texts words.now) ask → result ≡ status_of library_refused
-        → Prints ShowsRefusal (F.told shelf.old ask.lib) (O.told out.old) (O.told out.new) }
     ensures read_fault { (ask : SolveWords) → AskToSolve (texts words.now) ask → result ≡ status_of read_fault
         → Rose (F.read_faults shelf.old ask.lib) (F.read_faults shelf.new ask.lib) }
     ensures cut_short { (ask : SolveWords) → AskToSolve (texts words.now) ask → result ≡ status_of write_fault
@@ -123,11 +150,8 @@ pub fn run_plain<F: Shelf, O: Sink>(
         → (result ≡ status_of write_fault) ⊎ (result ≡ status_of no_memory)
         → LeavesLog ALONE ALONE ask (F.told shelf.old ask.lib) (F.told shelf.old ask.log) (F.told shelf.new ask.log) }
 
-    // Where the log couldn't be written, nothing is printed; where it could, and the text couldn't be
-    // printed whole, it stands whole. A run that refuses the library, or can't read it, leaves LOG as
-    // it was.
-    ensures unlogged { (ask : SolveWords) → AskToSolve (texts words.now) ask → result ≡ status_of write_fault
-        → ¬ Rose (O.faults out.old) (O.faults out.new) → O.told out.new ≡ O.told out.old }
+    // Where the log could be written and the text couldn't be printed whole, the log stands whole. A
+    // run that refuses the library, or can't read it, leaves LOG as it was.
     ensures logged { (ask : SolveWords) → AskToSolve (texts words.now) ask → result ≡ status_of write_fault
         → ¬ Rose (F.write_faults shelf.old ask.log) (F.write_faults shelf.new ask.log)
         → CutsText ALONE ALONE ask (F.told shelf.old ask.lib) (F.told shelf.old ask.log) (F.told shelf.new ask.log)
@@ -137,18 +161,12 @@ pub fn run_plain<F: Shelf, O: Sink>(
         → F.told shelf.new ask.log ≡ F.told shelf.old ask.log }
 
     // A library that the shelf tells is searched or refused, where no call of the outside failed and
-    // there was memory; bytes that are no library are refused whether LOG can be written or not. A
-    // limit of 2 to the number of its members is never met.
+    // there was memory. A limit of 2 to the number of its members is never met.
     ensures complete { (ask : SolveWords) (bytes : List ℕ) → AskToSolve (texts words.now) ask
         → F.told shelf.old ask.lib ≡ Some bytes
         → ¬ Rose (F.read_faults shelf.old ask.lib) (F.read_faults shelf.new ask.lib)
         → ¬ Rose (F.write_faults shelf.old ask.log) (F.write_faults shelf.new ask.log)
         → ¬ Rose (O.faults out.old) (O.faults out.new) → Completes ask.branchings bytes result }
-    ensures always_refused { (ask : SolveWords) (bytes : List ℕ) (fault : LibFault) → AskToSolve (texts words.now) ask
-        → F.told shelf.old ask.lib ≡ Some bytes → library_of bytes ≡ Err fault
-        → ¬ Rose (F.read_faults shelf.old ask.lib) (F.read_faults shelf.new ask.lib)
-        → ¬ Rose (O.faults out.old) (O.faults out.new)
-        → (result ≡ status_of library_refused) ⊎ (result ≡ status_of no_memory) }
     ensures enough { (ask : SolveWords) (bytes : List ℕ) (lib : LibraryParts) → AskToSolve (texts words.now) ask
         → F.told shelf.old ask.lib ≡ Some bytes → library_of bytes ≡ Ok lib
         → 2 ^ member_count lib ≤ ask.branchings → ¬ (result ≡ status_of node_limit) }
@@ -162,41 +180,88 @@ pub fn run_plain<F: Shelf, O: Sink>(
     ensures no { (lib log : List ℕ) → AskToCheck (texts words.now) lib log → result ≡ status_of log_refused
         → PrintsOver ShowsNo (F.told shelf.old lib) (F.told shelf.old log)
         (O.told out.old) (O.told out.new) }
-    ensures check_refused_library { (lib log : List ℕ) → AskToCheck (texts words.now) lib log
-        → result ≡ status_of library_refused
-        → Prints ShowsRefusal (F.told shelf.old lib) (O.told out.old) (O.told out.new) }
     ensures check_complete { (lib log lib_bytes log_bytes : List ℕ) → AskToCheck (texts words.now) lib log
         → F.told shelf.old lib ≡ Some lib_bytes → F.told shelf.old log ≡ Some log_bytes
         → ¬ Rose (F.read_faults shelf.old lib) (F.read_faults shelf.new lib)
         → ¬ Rose (F.read_faults shelf.old log) (F.read_faults shelf.new log)
         → ¬ Rose (O.faults out.old) (O.faults out.new) → CompletesCheck lib_bytes log_bytes result }
-    ensures check_always_refused { (lib log bytes : List ℕ) (fault : LibFault) → AskToCheck (texts words.now) lib log
+
+    // What status 0 of the other commands that read says of the bytes of LIB and ARCH, of SINK and of
+    // what was printed.
+    ensures weighed { (lib arch : List ℕ) → AskToWeigh (texts words.now) lib arch → result ≡ status_of done
+        → PrintsOver ShowsWeighing (F.told shelf.old lib) (F.told shelf.old arch)
+        (O.told out.old) (O.told out.new) }
+    ensures cuts { (lib arch sink : List ℕ) → AskForCuts (texts words.now) lib arch sink → result ≡ status_of done
+        → PrintsOver (ShowsCuts sink) (F.told shelf.old lib) (F.told shelf.old arch)
+        (O.told out.old) (O.told out.new) }
+    ensures mass { (lib arch sink : List ℕ) → AskForMass (texts words.now) lib arch sink → result ≡ status_of done
+        → PrintsOver (ShowsMass sink) (F.told shelf.old lib) (F.told shelf.old arch)
+        (O.told out.old) (O.told out.new) }
+    ensures template { (lib : List ℕ) → AskForTemplate (texts words.now) lib → result ≡ status_of done
+        → Prints ShowsTemplate (F.told shelf.old lib) (O.told out.old) (O.told out.new) }
+    ensures rows { (lib : List ℕ) → AskForRows (texts words.now) lib → result ≡ status_of done
+        → Prints ShowsRows (F.told shelf.old lib) (O.told out.old) (O.told out.new) }
+
+    // What they come to, where no call of the outside failed and there was memory.
+    ensures weigh_complete { (lib arch lib_bytes arch_bytes : List ℕ) → AskToWeigh (texts words.now) lib arch
+        → F.told shelf.old lib ≡ Some lib_bytes → F.told shelf.old arch ≡ Some arch_bytes
+        → ¬ Rose (F.read_faults shelf.old lib) (F.read_faults shelf.new lib)
+        → ¬ Rose (F.read_faults shelf.old arch) (F.read_faults shelf.new arch)
+        → ¬ Rose (O.faults out.old) (O.faults out.new)
+        → UnlessNoMemory result (EndsOverArchitecture lib_bytes arch_bytes result) }
+    ensures sink_complete { (lib arch sink lib_bytes arch_bytes : List ℕ) → AskOfSink (texts words.now) lib arch sink
+        → F.told shelf.old lib ≡ Some lib_bytes → F.told shelf.old arch ≡ Some arch_bytes
+        → ¬ Rose (F.read_faults shelf.old lib) (F.read_faults shelf.new lib)
+        → ¬ Rose (F.read_faults shelf.old arch) (F.read_faults shelf.new arch)
+        → ¬ Rose (O.faults out.old) (O.faults out.new)
+        → UnlessNoMemory result (EndsOverSink sink lib_bytes arch_bytes result) }
+    ensures list_complete { (lib bytes : List ℕ) → AskForList (texts words.now) lib
+        → F.told shelf.old lib ≡ Some bytes
+        → ¬ Rose (F.read_faults shelf.old lib) (F.read_faults shelf.new lib)
+        → ¬ Rose (O.faults out.old) (O.faults out.new)
+        → UnlessNoMemory result (EndsOverLibrary bytes result) }
+
+    // Whatever the command, bytes under its library's name that are no library are refused with their
+    // first fault, and always so where no call on that file or the sink failed and there was memory.
+    // An architecture and a sink's name are refused as such.
+    ensures refused_library { (lib : List ℕ) → ReadsLibrary (command_of (texts words.now)) lib
+        → result ≡ status_of library_refused
+        → Prints ShowsRefusal (F.told shelf.old lib) (O.told out.old) (O.told out.new) }
+    ensures always_refused { (lib bytes : List ℕ) (fault : LibFault) → ReadsLibrary (command_of (texts words.now)) lib
         → F.told shelf.old lib ≡ Some bytes → library_of bytes ≡ Err fault
         → ¬ Rose (F.read_faults shelf.old lib) (F.read_faults shelf.new lib)
         → ¬ Rose (O.faults out.old) (O.faults out.new)
         → (result ≡ status_of library_refused) ⊎ (result ≡ status_of no_memory) }
-
-    // What each status of `probability` says of the bytes of LIB and ARCH, of SINK and of what was
-    // printed.
-    ensures mass { (lib arch sink : List ℕ) → AskForMass (texts words.now) lib arch sink → result ≡ status_of done
-        → PrintsOver (ShowsMass sink) (F.told shelf.old lib) (F.told shelf.old arch)
-        (O.told out.old) (O.told out.new) }
-    ensures mass_refused_library { (lib arch sink : List ℕ) → AskForMass (texts words.now) lib arch sink
-        → result ≡ status_of library_refused
-        → Prints ShowsRefusal (F.told shelf.old lib) (O.told out.old) (O.told out.new) }
-    ensures refused_architecture { (lib arch sink : List ℕ) → AskForMass (texts words.now) lib arch sink
+    ensures refused_architecture { (lib arch : List ℕ) → AskOfArchitecture (texts words.now) lib arch
         → result ≡ status_of architecture_refused
         → PrintsOver RefusesArchitecture (F.told shelf.old lib) (F.told shelf.old arch)
         (O.told out.old) (O.told out.new) }
-    ensures refused_sink { (lib arch sink : List ℕ) → AskForMass (texts words.now) lib arch sink
+    ensures refused_sink { (lib arch sink : List ℕ) → AskOfSink (texts words.now) lib arch sink
         → result ≡ status_of words_refused
         → PrintsOver (RefusesSink sink) (F.told shelf.old lib) (F.told shelf.old arch)
         (O.told out.old) (O.told out.new) }
-    ensures mass_complete { (lib arch sink lib_bytes arch_bytes : List ℕ) → AskForMass (texts words.now) lib arch sink
-        → F.told shelf.old lib ≡ Some lib_bytes → F.told shelf.old arch ≡ Some arch_bytes
-        → ¬ Rose (F.read_faults shelf.old lib) (F.read_faults shelf.new lib)
-        → ¬ Rose (F.read_faults shelf.old arch) (F.read_faults shelf.new arch)
-        → ¬ Rose (O.faults out.old) (O.faults out.new) → CompletesMass sink lib_bytes arch_bytes result }
+
+    // What each answer of `generate` shows: what `solve` shows over the text of the number, under OUT,
+    // with the greatest limit of branchings. A run that stops before its end leaves OUT and LOG as
+    // they were, or fronts of what was due; where both could be written and the summary couldn't be
+    // printed whole, they stand whole.
+    ensures generated { (ask : GenerateWords) → AskToGenerate (texts words.now) ask → Answered result
+        → ShowsGenerated ask result (F.told shelf.new ask.file) (F.told shelf.new ask.log)
+        (O.told out.old) (O.told out.new) }
+    ensures generate_stopped { (ask : GenerateWords) → AskToGenerate (texts words.now) ask
+        → (result ≡ status_of write_fault) ⊎ (result ≡ status_of no_memory)
+        → LeavesGenerated ask (F.told shelf.old ask.file) (F.told shelf.new ask.file)
+        (F.told shelf.old ask.log) (F.told shelf.new ask.log) }
+    ensures generate_written { (ask : GenerateWords) → AskToGenerate (texts words.now) ask
+        → result ≡ status_of write_fault
+        → ¬ Rose (F.write_faults shelf.old ask.file) (F.write_faults shelf.new ask.file)
+        → ¬ Rose (F.write_faults shelf.old ask.log) (F.write_faults shelf.new ask.log)
+        → CutsSummary ask (F.told shelf.new ask.file) (F.told shelf.new ask.log)
+        (O.told out.old) (O.told out.new) }
+    ensures generate_complete { (ask : GenerateWords) → AskToGenerate (texts words.now) ask
+        → ¬ Rose (F.write_faults shelf.old ask.file) (F.write_faults shelf.new ask.file)
+        → ¬ Rose (F.write_faults shelf.old ask.log) (F.write_faults shelf.new ask.log)
+        → ¬ Rose (O.faults out.old) (O.faults out.new) → CompletesGeneration ask result }
 
     // Refused words are refused, with the place of the first that isn't as it should be, and touch
     // no file.
@@ -207,14 +272,16 @@ pub fn run_plain<F: Shelf, O: Sink>(
     ensures untouched { IsErr (command_of (texts words.now)) → shelf.new ≡ shelf.old }
 
     // There is no other status than those of the words' command. A fault has its cause in a file
-    // that the command reads or writes, or in the sink; with a read fault or without memory nothing
-    // was printed.
+    // that the command reads or writes, or in the sink; with a read fault or without memory, or where
+    // a file couldn't be written, nothing was printed.
     ensures statuses { MayEnd (command_of (texts words.now)) result }
     ensures unread { result ≡ status_of read_fault → RoseAmong (files_of files_read (command_of (texts words.now)))
         (F.read_faults shelf.old) (F.read_faults shelf.new) }
     ensures write_fault { result ≡ status_of write_fault → Rose (O.faults out.old) (O.faults out.new)
         ⊎ RoseAmong (files_of files_written (command_of (texts words.now)))
         (F.write_faults shelf.old) (F.write_faults shelf.new) }
+    ensures unwritten { result ≡ status_of write_fault → ¬ Rose (O.faults out.old) (O.faults out.new)
+        → O.told out.new ≡ O.told out.old }
     ensures nothing_printed { (result ≡ status_of read_fault) ⊎ (result ≡ status_of no_memory)
         → O.told out.new ≡ O.told out.old }
 

@@ -4,12 +4,15 @@ ghost use Rattle.archex_app.specs.Mass.{IsSinkNamed};
 ghost use Rattle.archex_app.specs.Inner.Outcome.{StopsAtSink};
 
 use crate::outcome::{Outcome, Stop};
-use crate::refusal::words_line;
 use crate::status::Status;
 use arch_model::{CompId, Library, Role};
+use report::words_line;
 use std::alloc::Global;
 use std::borrow::CowSlice;
 use template::find_component;
+
+/// The place of a sink's name among the words.
+pub const SINK_PLACE: u32 = 4;
 
 // The component of role sink of that name; none where the name isn't a sink's.
 fn find_sink(lib: &Library, name: &str) -> Option<CompId>

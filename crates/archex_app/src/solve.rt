@@ -4,55 +4,68 @@ ghost use Rattle.std.specs.Cow.{cow_slice_items};
 ghost use Rattle.outside.specs.Faults.{Stay};
 ghost use Rattle.lib_read.specs.LibraryOf.{library_of};
 ghost use Rattle.search_core.specs.declared.limits.TheConstants as limits;
-ghost use Rattle.archex_app.specs.Status.{status_of, library_refused};
-ghost use Rattle.archex_app.specs.Refusal.{refused_library_text};
+ghost use Rattle.search_core.specs.Rules.{weights_of};
+ghost use Rattle.report.specs.Report.{report_text};
+ghost use Rattle.report.specs.Refusal.{refused_library_text};
+ghost use Rattle.archex_app.specs.Status.{status_of, ending_of, library_refused};
 ghost use Rattle.archex_app.specs.Words.{solve};
 ghost use Rattle.archex_app.specs.ComesTo.{ALONE};
 ghost use Rattle.archex_app.specs.Run.{Runs, seen};
-ghost use Rattle.archex_app.specs.Report.{report_text, ending_of};
-ghost use Rattle.archex_app.specs.Inner.Report.{HasBest};
 ghost use Rattle.archex_app.specs.Inner.Outcome.{StopsAt};
-ghost use Rattle.archex_app.specs.Inner.Log.{Concludes};
-ghost use Rattle.archex_app.specs.Inner.Searched.{IsSearched, IsSearchedUnder};
+ghost use Rattle.archex_app.specs.Inner.Searched.{HasBest, IsReportedUnder};
 
 use crate::library::library_under;
-use crate::log_file::{WriteError, write_log};
-use crate::outcome::{Outcome, Stop, finish, print};
-use crate::report::{report, status_for};
+use crate::log_file::write_log;
+use crate::outcome::{Outcome, Stop, conclude, finish};
+use crate::search::{Searched, search, status_for};
 use crate::status::Status;
+use crate::weights::weights;
 use arch_model::{Library, Memory};
-use binary_program::problem_of;
+use incumbent::Best;
 use outside::{Shelf, Sink};
-use rows::{Problem, variable_count};
+use report::solve_text;
 use std::alloc::Global;
 use std::borrow::CowSlice;
-use worker_team::{Solved, solve_alone};
+use worker_team::Solved;
 
 /// A search that came to its end, and its report.
 #[derive(Drop)]
-pub struct Searched {
-    /// The library with its base rows.
-    pub problem: Problem,
-    /// What the search left.
-    pub solved: Solved,
+pub struct Reported {
+    /// The search.
+    pub searched: Searched,
     /// How the run ends, and what is then printed.
     pub report: Outcome,
 }
 
+// What the required sinks weigh in the best, where there is one.
+fn best_weights(alloc: Global, lib: &Library, best: &Option<Best>) -> Result<Vec<u128>, Memory>
+    requires { IfSome best.now (HasBest lib.now) }
+    ensures { IfOk result (λ weights. IfSome best.now (λ found.
+        weights.items ≡ weights_of lib.now found.architecture)) }
+{
+    match best {
+        Some(found) => weights(alloc, lib, &found.architecture),
+        None => Ok(Vec::new(alloc)),
+    }
+}
+
 // The report of a search.
-fn reported(alloc: Global, lib: &Library, solved: &Solved) -> Result<Outcome, Memory>
+fn report_of(alloc: Global, lib: &Library, solved: &Solved) -> Result<Outcome, Memory>
     requires { IfSome solved.now.best (HasBest lib.now) }
     ensures status { IfOk result (λ outcome. outcome.status ≡ status_of (ending_of solved.now.answer)) }
     ensures text { IfOk result (λ outcome. cow_slice_items outcome.text
         ≡ report_text lib.now solved.now.answer solved.now.best solved.now.branchings solved.now.cuts) }
 {
-    let text = report(
-        alloc,
+    let weights = best_weights(alloc, lib, &solved.best)?;
+    let mut text = Vec::new(alloc);
+    solve_text(
         lib,
         &solved.answer,
-        &solved.best,
+        solved.best,
+        &weights,
         solved.branchings,
         solved.cuts,
+        &mut text,
     )?;
     Ok(Outcome {
         status: status_for(&solved.answer),
@@ -60,32 +73,15 @@ fn reported(alloc: Global, lib: &Library, solved: &Solved) -> Result<Outcome, Me
     })
 }
 
-// Searches a library up to a limit of branchings, with one worker.
-fn search(alloc: Global, lib: Library, limit: u32) -> Result<Searched, Memory>
-    requires { limit ≤ limits.BRANCHINGS }
-    ensures { IfOk result (IsSearched lib limit ALONE ALONE) }
-{
-    let problem = problem_of(alloc, lib)?;
-    // read for what each problem keeps of its library and its rows
-    let _count = variable_count(problem.library());
-    let solved = solve_alone(alloc, &problem, limit)?;
-    let report = reported(alloc, problem.library(), &solved)?;
-    Ok(Searched {
-        problem,
-        solved,
-        report,
-    })
-}
-
-// Searches the library under a name.
-fn search_under<F: Shelf>(
+// Searches the library under a name, and reports.
+fn report_under<F: Shelf>(
     alloc: Global,
     shelf: &mut F,
     name: &str,
     limit: u32,
-) -> Result<Searched, Stop>
+) -> Result<Reported, Stop>
     requires { limit ≤ limits.BRANCHINGS }
-    ensures searched { IfOk result (IsSearchedUnder (F.told shelf.old name.now) limit ALONE ALONE) }
+    ensures reported { IfOk result (IsReportedUnder (F.told shelf.old name.now) limit ALONE ALONE) }
     ensures reads_stay { OnOk result (Stay (F.read_faults shelf.old) (F.read_faults shelf.new)) }
     ensures stop { IfErr result (λ stop. StopsAt library_of library_refused refused_library_text
         (F.told shelf.old name.now) name.now stop (F.read_faults shelf.old) (F.read_faults shelf.new)) }
@@ -96,20 +92,8 @@ fn search_under<F: Shelf>(
 {
     let lib = library_under(alloc, shelf, name)?;
     let searched = search(alloc, lib, limit)?;
-    Ok(searched)
-}
-
-// Ends a run whose log was written, or wasn't: only a run with a whole log prints.
-fn conclude<O: Sink>(out: &mut O, written: Result<(), WriteError>, report: Outcome) -> Status
-    ensures concludes { Concludes written report result
-        (O.told out.old) (O.told out.new) (O.faults out.old) (O.faults out.new) }
-    ensures never_falls { O.faults out.old ≤ O.faults out.new }
-{
-    match written {
-        Ok(()) => print(out, report.text.as_slice(), report.status),
-        Err(WriteError::Failed) => Status::WRITE_FAULT,
-        Err(WriteError::Memory) => Status::NO_MEMORY,
-    }
+    let report = report_of(alloc, searched.problem.library(), &searched.solved)?;
+    Ok(Reported { searched, report })
 }
 
 /// Does what `solve` asks: reads the library, searches it with one worker up to a limit of
@@ -135,11 +119,18 @@ pub fn solve_library<F: Shelf, O: Sink>(
         (seen (F.told shelf.new) (F.read_faults shelf.new) (F.write_faults shelf.new)
         (O.told out.new) (O.faults out.new)) }
 {
-    match search_under(alloc, shelf, lib, limit) {
-        Ok(searched) => {
-            let problem = &searched.problem;
-            let written = write_log(alloc, shelf, log, problem, limit, &searched.solved);
-            conclude(out, written, searched.report)
+    match report_under(alloc, shelf, lib, limit) {
+        Ok(reported) => {
+            let searched = &reported.searched;
+            let written = write_log(
+                alloc,
+                shelf,
+                log,
+                &searched.problem,
+                limit,
+                &searched.solved,
+            );
+            conclude(out, written, reported.report)
         }
         Err(stop) => finish(out, Err(stop)),
     }

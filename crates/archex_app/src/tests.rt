@@ -420,7 +420,7 @@ fn other_words_are_refused(rt: HostRuntime) -> Result<(), Fail> {
         (&["solve", "a", "b", "5", "many", ""], b"refused words 5\n"),
         (&["solve", "a", "b", "5", "2", "3"], b"refused words 6\n"),
         (&["solve", "a", "b", "5", "2", "00"], b"refused words 6\n"),
-        (&["rows", "a", "b"], b"refused words 1\n"),
+        (&["Rows", "a"], b"refused words 1\n"),
         (&["check"], b"refused words 2\n"),
         (&["check", "a"], b"refused words 3\n"),
         (&["check", "", "b", "c"], b"refused words 4\n"),

@@ -4,8 +4,8 @@ use outside::{MemShelf, MemSink};
 use std::alloc::{AllocError, Global};
 use std::test::Fail;
 
-// Two generators, two buses and a load.
-const B: &[u8] = b"type = [
+/// Two generators, two buses and a load.
+pub(crate) const B: &[u8] = b"type = [
   {name = \"gen\", role = \"source\", max = 2, cost = 100, fail = 1000},
   {name = \"bus\", role = \"middle\", max = 2, cost = 20, fail = 100},
   {name = \"load\", role = \"sink\"},
@@ -25,7 +25,8 @@ const FOUR: &[u8] = b"type = [
 link = [{from = \"s\", to = \"t\"}]
 ";
 
-const CHAIN: &[u8] = b"kind,from,to
+/// One of each of them, in a chain.
+pub(crate) const CHAIN: &[u8] = b"kind,from,to
 component,gen.1,
 component,bus.1,
 component,load.1,
@@ -33,9 +34,9 @@ edge,gen.1,bus.1
 edge,bus.1,load.1
 ";
 
-// What a run of some words over a library `l` and an architecture `a` printed, and its status, with
-// one call failing.
-fn run_on(
+/// What a run of some words over a library `l` and an architecture `a` printed, and its status, with
+/// one call failing.
+pub(crate) fn run_on(
     alloc: Global,
     words: &[&str],
     library: &[u8],

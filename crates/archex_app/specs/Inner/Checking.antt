@@ -15,7 +15,7 @@ use Rattle.archex_app.specs.declared.outcome.Stop.TheVariants.{NoMemory, Unread,
 use Rattle.archex_app.specs.declared.check.Halt.{Halt}
 use Rattle.archex_app.specs.declared.check.Halt.TheVariants.{Memory, Failed, No}
 use Rattle.archex_app.specs.Status.{status_of, done, log_refused}
-use Rattle.archex_app.specs.Verdict.{yes_text, no_text}
+use Rattle.report.specs.Verdict.{yes_text, no_text}
 use Rattle.archex_app.specs.Inner.Reading.{IsFront}
 
 -- a reader stops for the same cause
@@ -61,7 +61,7 @@ HaltReads (No refused) name before now = Stay before now
 abbrev pub Tells : Result Answer Halt → Result Outcome Stop → Type 0
 Tells (Ok answer) (Ok outcome) = (outcome.status ≡ status_of done) × (cow_slice_items outcome.text ≡ yes_text answer)
 Tells (Ok answer) (Err stop) = stop ≡ NoMemory
-Tells (Err (No refused)) (Ok outcome) = (outcome.status ≡ status_of log_refused) × (cow_slice_items outcome.text ≡ no_text refused)
+Tells (Err (No refused)) (Ok outcome) = (outcome.status ≡ status_of log_refused) × (cow_slice_items outcome.text ≡ no_text refused.line refused.rule)
 Tells (Err (No refused)) (Err stop) = stop ≡ NoMemory
 Tells (Err Memory) told = told ≡ Err NoMemory
 Tells (Err Failed) told = told ≡ Err Unread

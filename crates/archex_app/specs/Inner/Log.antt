@@ -1,14 +1,15 @@
 -- For the code's own contracts: how far a text was appended to a file.
-use Rattle.std.specs.Prelude.{◌≡◌, ℕ, Option, List, ◌++◌, ◌⊎◌, Result, Ok, Err, IfSome}
+use Rattle.std.specs.Prelude.{◌≡◌, ℕ, Option, List, [], ◌∷◌, ◌++◌, ◌⊎◌, Result, Ok, Err, IfSome, Contains}
 use Rattle.std.specs.Cow.{cow_slice_items}
 use Rattle.std.specs.List.{flat_map}
+use Rattle.outside.specs.Faults.{Rose, ChangesOnly}
 use Rattle.outside.specs.Told.{Appends}
 use Rattle.search_core.specs.declared.entry.Entry.{Entry}
 use Rattle.proof_log.specs.Value.{ended, entry_text}
 use Rattle.archex_app.specs.declared.status.Status.{Status}
 use Rattle.archex_app.specs.declared.outcome.Outcome.{Outcome}
-use Rattle.archex_app.specs.declared.log_file.WriteError.{WriteError}
-use Rattle.archex_app.specs.declared.log_file.WriteError.TheVariants.{Memory, Failed}
+use Rattle.archex_app.specs.declared.writing.WriteError.{WriteError}
+use Rattle.archex_app.specs.declared.writing.WriteError.TheVariants.{Memory, Failed}
 use Rattle.archex_app.specs.Status.{status_of, write_fault, no_memory}
 use Rattle.archex_app.specs.Inner.Outcome.{Printed}
 
@@ -30,7 +31,19 @@ IsAppendedSome before now text = (left : List ℕ) × IsAppended before now text
 abbrev pub IsFrontOf : Option (List ℕ) → Option (List ℕ) → List ℕ → Type 0
 IsFrontOf before now text = (now ≡ before) ⊎ IfSome now (λ bytes. (rest : List ℕ) × (text ≡ bytes ++ rest))
 
--- how a run ends with an outcome once a file was written, or wasn't: only after a whole file is anything printed
+-- two files hold two texts, where they are told
+abbrev pub HoldBoth : (List ℕ → Option (List ℕ)) → List ℕ → List ℕ → List ℕ → List ℕ → Type 0
+HoldBoth now first first_text second second_text = IfSome (now first) (λ bytes. bytes ≡ first_text) × IfSome (now second) (λ bytes. bytes ≡ second_text)
+
+-- each of two files holds what it held, or where it is told, a front of its text
+abbrev pub HoldFronts : (List ℕ → Option (List ℕ)) → (List ℕ → Option (List ℕ)) → List ℕ → List ℕ → List ℕ → List ℕ → Type 0
+HoldFronts before now first first_text second second_text = IsFrontOf (before first) (now first) first_text × IsFrontOf (before second) (now second) second_text
+
+-- the count of one of these names rose, and no other
+abbrev pub FailsAtOne : List (List ℕ) → (List ℕ → ℕ) → (List ℕ → ℕ) → Type 0
+FailsAtOne names before now = (name : List ℕ) × Contains names name × Rose (before name) (now name) × ChangesOnly (name ∷ []) before now
+
+-- how a run ends with an outcome once its files were written, or weren't: only after whole files is anything printed
 abbrev pub Concludes : {T : Type 0} → Result T WriteError → Outcome → Status → Option (List ℕ) → Option (List ℕ) → ℕ → ℕ → Type 0
 Concludes (Ok x) outcome status before now faults_before faults_now = Printed outcome.status (cow_slice_items outcome.text) status before now faults_before faults_now
 Concludes (Err Failed) outcome status before now faults_before faults_now = (status ≡ status_of write_fault) × (now ≡ before) × (faults_now ≡ faults_before)

@@ -3,7 +3,9 @@ use Rattle.std.specs.Prelude.{◌≡◌, ℕ, Option, List, [], ◌∷◌, ◌++
 use Rattle.std.specs.Cow.{cow_slice_items}
 use Rattle.outside.specs.Faults.{Rose, Stay, ChangesOnly}
 use Rattle.outside.specs.Told.{Appends}
-use Rattle.arch_model.specs.Parts.{LibraryParts}
+use Rattle.arch_model.specs.Parts.{LibraryParts, ArchitectureParts}
+use Rattle.search_core.specs.Rules.{weights_of}
+use Rattle.report.specs.Weighing.{IsFirstBroken, weigh_text}
 use Rattle.archex_app.specs.declared.status.Status.{Status}
 use Rattle.archex_app.specs.declared.reading.ReadError.{ReadError}
 use Rattle.archex_app.specs.declared.reading.ReadError.TheVariants.{Memory, Failed}
@@ -11,7 +13,7 @@ use Rattle.archex_app.specs.declared.outcome.Outcome.{Outcome}
 use Rattle.archex_app.specs.declared.outcome.Stop.{Stop}
 use Rattle.archex_app.specs.declared.outcome.Stop.TheVariants.{NoMemory, Unread, Refused}
 use Rattle.archex_app.specs.Status.{Ending, status_of, words_refused, read_fault, write_fault, no_memory}
-use Rattle.archex_app.specs.Words.{refused_words_text}
+use Rattle.report.specs.Refusal.{refused_words_text}
 use Rattle.archex_app.specs.Mass.{IsSinkNamed}
 use Rattle.archex_app.specs.Due.{Due, ends, unread, IsSettled}
 
@@ -66,3 +68,7 @@ StopsAtSink lib name place (Refused outcome) =
     ((c : ℕ) → IsSinkNamed lib name c → ⊥) × (outcome.status ≡ status_of words_refused) × (cow_slice_items outcome.text ≡ refused_words_text place)
 StopsAtSink lib name place Unread = ⊥
 StopsAtSink lib name place NoMemory = Unit {0}
+
+-- it is the text of what an architecture comes to, with the first pattern that it breaks
+abbrev pub IsWeighing : LibraryParts → ArchitectureParts → List ℕ → Type 0
+IsWeighing lib arch text = (broken : Option ℕ) × IsFirstBroken lib arch broken × (text ≡ weigh_text lib arch (weights_of lib arch) broken)

@@ -13,7 +13,7 @@ returns-in-Err-Fault-clause-stop g c = (
     c.in-Err-Fault.fault,
     library_read (g.F.Shelf.told c.args.shelf.now c.args.name.now) c.in_ok-bytes.bytes.items (Err c.in-Err-Fault.fault) c.in_ok-bytes.ensures.bytes (ap library_of (sym c.as_slice.ensures.value) ∙ (rw c.in-Err-Fault.field-0-is at c.in-Err-Fault.ensures.fault)),
     refl,
-    ap (λ v. v.items) c.into_bytes.ensures.value ∙ c.in_ok-text-in-Err-Fault.ensures,
+    c.in_ok-text-in-Err-Fault.ensures,
   ),
   c.in_ok-bytes.ensures.reads_stay,
 )

@@ -5,7 +5,7 @@ use Rattle.archex_app.proofs.words.numeral.Goals.{else-is_text_of-via-then-is_te
 
 pub returns-in_default : goal.returns-in_default
 returns-in_default c =
-    let small : c.args.most < 2 ^ 32 = omega (arith, c.ranges.most.fits) in
+    let small : c.args.most < 2 ^ 64 = omega (arith, c.ranges.most.fits) in
     sym (numeral_none c.args.least c.args.most c.args.word.now c.parse.result c.parse.ensures.value.0 small (λ n parsed text low high. no_parse c.parse.result c.in_default.field-0 n c.in_default.is parsed))
 
 pub returns-then-number-most : goal.returns-then-number-most
@@ -14,7 +14,7 @@ returns-then-number-most c =
 
 pub returns : goal.returns
 returns c =
-    let small : c.args.most < 2 ^ 32 = omega (arith, c.ranges.most.fits) in
+    let small : c.args.most < 2 ^ 64 = omega (arith, c.ranges.most.fits) in
     let n = c.in-Ok.number in
     sym (numeral_none c.args.least c.args.most c.args.word.now c.parse.result c.parse.ensures.value.0 small (λ m parsed text low high.
     let same : n ≡ m = same_parsed c.parse.result n m c.in-Ok.is parsed in

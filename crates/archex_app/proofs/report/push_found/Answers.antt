@@ -1,7 +1,0 @@
-use Rattle.std.proofs.Common.{◌∙◌}
-use Rattle.archex_app.proofs.ReportLaws.{found_is}
-use Rattle.archex_app.proofs.report.push_found.Goals as goal
-
-pub returns : goal.returns
-returns c =
-    found_is c.args.lib.now c.args.found.now.architecture c.args.found.now.cost _ _ _ _ _ _ c.requires.cost (c.as_bytes.ensures.value ∙ c.in_ok-cost.ensures) c.in_ok-extend_from_slice.ensures.items c.in_ok-write_architecture.ensures.text c.in_ok-extend_from_slice-2.ensures.items (c.as_bytes-2.ensures.value ∙ c.in_ok-weights.ensures)
