@@ -34,7 +34,8 @@ use Rattle.archex_app.specs.CutsListed.{AreItsCuts, ShowsCuts}
 use Rattle.archex_app.specs.MassAnswer.{ShowsMass}
 use Rattle.archex_app.specs.Listed.{ShowsTemplate, ShowsRows}
 use Rattle.archex_app.specs.ComesTo.{CommandComesTo, ComesTo, EndsWith, OverLibrary, OverArchitecture, OverSink, WeighingComesTo, CutsComeTo, MassComesTo}
-use Rattle.archex_app.specs.Run.{Seen, names_of, EndsAsDue, Runs}
+use Rattle.archex_app.specs.Files.{names_of}
+use Rattle.archex_app.specs.Run.{Seen, EndsAsDue, Runs}
 use Rattle.archex_app.proofs.Within.{same_ending, same_text, only_one, either_name}
 use Rattle.archex_app.proofs.AllRuns.{as_due, run_of_words}
 use Rattle.archex_app.proofs.Coming.{OfSink}

@@ -19,10 +19,11 @@ use Rattle.report.specs.Refusal.{refused_library_text}
 use Rattle.archex_app.specs.Search.{base_problem, IsSearch, search_log}
 use Rattle.report.specs.Report.{search_report}
 use Rattle.archex_app.specs.Answer.{ShowsCheapest, ShowsInfeasible, ShowsNodeLimit, ShowsRefusal, ShowsReport, Prints, PrintsFront}
-use Rattle.archex_app.specs.Searched.{Answered, ShowsSearch, SomeSearch, IsLogFront, LeavesLog, CutsText}
+use Rattle.archex_app.specs.Searched.{Answered, ShowsAnswer, ShowsSearch, SomeSearch, IsLogFront, LeavesLog, CutsText}
 use Rattle.archex_app.specs.ComesTo.{ComesTo, SearchComesTo, ALONE, EndsWith}
 use Rattle.archex_app.specs.Complete.{Solves, Completes}
-use Rattle.archex_app.specs.Run.{Seen, names_of, RoseAmong, PrintsFrontOf, EndsAsDue, FailsToRead, FailsAtFile, FailsAtText, FailsToWrite, HoldsAll, HoldsFronts, WantsMemory, Runs}
+use Rattle.archex_app.specs.Files.{names_of, IsFrontOf}
+use Rattle.archex_app.specs.Run.{Seen, RoseAmong, PrintsFrontOf, EndsAsDue, FailsToRead, FailsAtFile, FailsAtText, FailsToWrite, HoldsAll, HoldsUpTo, WantsMemory, Runs}
 use Rattle.archex_app.proofs.RunLaws.{apart}
 use Rattle.archex_app.proofs.SearchAnswers.{optimal_shows, infeasible_shows, limit_shows, some_admissible, none_admissible, least_best, best_admissible, limit_spent, complete_unless, cuts_hold}
 use Rattle.archex_app.proofs.PassingLogs.{search_passes}
@@ -163,8 +164,21 @@ one_search ask told bytes text ending files reads w = record {
   search = w.search;
 }
 
--- what a search shows whose report was printed and whose log was written
-abbrev pub shows_search : (ask : SolveWords) (status : Status) (lib_told log_told before now : Option (List ℕ)) (one : SomeSearch ALONE ALONE ask lib_told) → status ≡ status_of (ending_of one.answer) → Appends before now (search_report one.lib one.state one.answer)
+-- what a search shows of its library
+abbrev pub shows_answer_of : (ask : SolveWords) (lib_told : Option (List ℕ)) (one : SomeSearch ALONE ALONE ask lib_told) → ShowsAnswer ALONE ALONE one.lib ask.branchings one.entries one.state one.answer
+shows_answer_of ask lib_told one = record {
+  search = one.search;
+  optimal = λ cost is. least_best one.lib ask.branchings ALONE ALONE one.entries one.state cost (subst (λ (a : Answer). IsSearch one.lib ask.branchings ALONE ALONE one.entries one.state a) is one.search);
+  none_meets = λ is. none_admissible one.lib ask.branchings ALONE ALONE one.entries one.state (subst (λ (a : Answer). IsSearch one.lib ask.branchings ALONE ALONE one.entries one.state a) is one.search);
+  at_limit = λ incumbent is. limit_spent one.lib ask.branchings ALONE ALONE one.entries one.state incumbent (subst (λ (a : Answer). IsSearch one.lib ask.branchings ALONE ALONE one.entries one.state a) is one.search);
+  complete = complete_unless one.lib ask.branchings ALONE ALONE one.entries one.state one.answer one.search;
+  best = best_admissible one.lib ask.branchings ALONE ALONE one.entries one.state one.answer one.search;
+  passes = search_passes one.bytes one.lib ask.branchings ALONE ALONE one.entries one.state one.answer one.read one.search;
+  cuts_hold = cuts_hold one.lib ask.branchings ALONE ALONE one.entries one.state one.answer one.search;
+}
+
+-- and where its report was printed and its log was written
+shows_search : (ask : SolveWords) (status : Status) (lib_told log_told before now : Option (List ℕ)) (one : SomeSearch ALONE ALONE ask lib_told) → status ≡ status_of (ending_of one.answer) → Appends before now (search_report one.lib one.state one.answer)
     → IfSome log_told (λ log. log ≡ search_log one.lib ask.branchings one.entries one.state one.answer) → ShowsSearch ALONE ALONE ask status lib_told log_told before now
 shows_search ask status lib_told log_told before now one ended printed log = record {
   bytes = one.bytes;
@@ -174,17 +188,10 @@ shows_search ask status lib_told log_told before now one ended printed log = rec
   entries = one.entries;
   state = one.state;
   answer = one.answer;
-  search = one.search;
-  optimal = λ cost is. least_best one.lib ask.branchings ALONE ALONE one.entries one.state cost (subst (λ (a : Answer). IsSearch one.lib ask.branchings ALONE ALONE one.entries one.state a) is one.search);
-  none_meets = λ is. none_admissible one.lib ask.branchings ALONE ALONE one.entries one.state (subst (λ (a : Answer). IsSearch one.lib ask.branchings ALONE ALONE one.entries one.state a) is one.search);
-  at_limit = λ incumbent is. limit_spent one.lib ask.branchings ALONE ALONE one.entries one.state incumbent (subst (λ (a : Answer). IsSearch one.lib ask.branchings ALONE ALONE one.entries one.state a) is one.search);
-  complete = complete_unless one.lib ask.branchings ALONE ALONE one.entries one.state one.answer one.search;
-  best = best_admissible one.lib ask.branchings ALONE ALONE one.entries one.state one.answer one.search;
+  shows = shows_answer_of ask lib_told one;
   ended_so = ended;
   printed = printed;
   log = log;
-  passes = search_passes one.bytes one.lib ask.branchings ALONE ALONE one.entries one.state one.answer one.read one.search;
-  cuts_hold = cuts_hold one.lib ask.branchings ALONE ALONE one.entries one.state one.answer one.search;
 }
 
 searched_from : (ask : SolveWords) (status : Status) (before now : Seen) (due : Came ask status before now) (bytes : List ℕ) → IfSome (before.told ask.lib) (λ all. bytes ≡ all) → Found ask bytes due.ending due.files due.text
@@ -247,14 +254,11 @@ front_at : (ask : SolveWords) (told log_before log_now : Option (List ℕ)) (byt
     → (log_now ≡ log_before) ⊎ IfSome log_now (λ front. (rest : List ℕ) × (search_log w.lib ask.branchings w.entries w.state w.answer ≡ front ++ rest)) → LeavesLog ALONE ALONE ask told log_before log_now
 front_at ask told log_before log_now bytes text ending files reads w left = left_by ask told log_before log_now (one_search ask told bytes text ending files reads w) left
 
-abbrev LeftAt : List ℕ → List ℕ → Seen → Seen → Type 0
-LeftAt name text before now = (now.told name ≡ before.told name) ⊎ IfSome (now.told name) (λ bytes. (rest : List ℕ) × (text ≡ bytes ++ rest))
-
-front_of_one : (name text : List ℕ) (files : List (List ℕ × List ℕ)) (before now : Seen) → files ≡ (name, text) ∷ [] → HoldsFronts files before now → LeftAt name text before now
-front_of_one name text files before now is holds =
-    let P : List (List ℕ × List ℕ) → Type 0 = λ fs. HoldsFronts fs before now in
-    let one : HoldsFronts ((name, text) ∷ []) before now = subst P is holds in
-    one.fronts 0 (name, text) (omega arith)
+front_of_one : (name text : List ℕ) (files : List (List ℕ × List ℕ)) (at : List ℕ) (before now : Seen) → files ≡ (name, text) ∷ [] → HoldsUpTo at files before now → IsFrontOf (before.told name) (now.told name) text
+front_of_one name text files at before now is holds =
+    let P : List (List ℕ × List ℕ) → Type 0 = λ fs. HoldsUpTo at fs before now in
+    let one : HoldsUpTo at ((name, text) ∷ []) before now = subst P is holds in
+    elim one.cut [ inl w ↦ w.1 | inr w ↦ absurd w.1 ]
 
 pub whole_front : (told : Option (List ℕ)) (text : List ℕ) → IfSome told (λ bytes. bytes ≡ text) → IfSome told (λ bytes. (rest : List ℕ) × (text ≡ bytes ++ rest))
 whole_front None text is = tt
@@ -279,9 +283,9 @@ log_stays ask status before now run is = elim is [
   | inr five ↦ let read : FailsToRead (ComesTo before.told (Ok (solve ask))) status before now = as_read _ status before now run.goes.ended five in read.kept ask.log
 ]
 
-left_by_fronts : (ask : SolveWords) (before now : Seen) (ending : Ending) (files : List (List ℕ × List ℕ)) (text : List ℕ) → Shown before.told ask ending files text → HoldsFronts files before now → LeavesLog ALONE ALONE ask (before.told ask.lib) (before.told ask.log) (now.told ask.log)
-left_by_fronts ask before now ending files text found holds = elim found.2 [
-  | inl w ↦ front_at ask (before.told ask.lib) (before.told ask.log) (now.told ask.log) found.0 text ending files found.1 w (front_of_one ask.log (search_log w.lib ask.branchings w.entries w.state w.answer) files before now w.files_are holds)
+left_by_cut : (ask : SolveWords) (before now : Seen) (ending : Ending) (files : List (List ℕ × List ℕ)) (text : List ℕ) → Shown before.told ask ending files text → (at : List ℕ) → HoldsUpTo at files before now → LeavesLog ALONE ALONE ask (before.told ask.lib) (before.told ask.log) (now.told ask.log)
+left_by_cut ask before now ending files text found at holds = elim found.2 [
+  | inl w ↦ front_at ask (before.told ask.lib) (before.told ask.log) (now.told ask.log) found.0 text ending files found.1 w (front_of_one ask.log (search_log w.lib ask.branchings w.entries w.state w.answer) files at before now w.files_are holds)
   | inr w ↦ inl (holds.others ask.log (λ has. nothing_in files ask.log w.2 has))
 ]
 
@@ -295,12 +299,12 @@ left_by_write : (ask : SolveWords) (status : Status) (before now : Seen) → Fai
 left_by_write ask status before now w =
     let found = solve_shows before.told ask w.ending w.files w.text w.due in
     elim w.cause [
-      | inl at_file ↦ left_by_fronts ask before now w.ending w.files w.text found at_file.holds
+      | inl at_file ↦ left_by_cut ask before now w.ending w.files w.text found at_file.name at_file.holds
       | inr at_text ↦ left_by_all ask before now w.ending w.files w.text found at_text.holds
     ]
 
 left_by_memory : (ask : SolveWords) (status : Status) (before now : Seen) → WantsMemory (ComesTo before.told (Ok (solve ask))) status before now → LeavesLog ALONE ALONE ask (before.told ask.lib) (before.told ask.log) (now.told ask.log)
-left_by_memory ask status before now w = elim w.holds [ inl same ↦ inl (same ask.log) | inr part ↦ left_by_fronts ask before now part.0 part.1 part.2 (solve_shows before.told ask part.0 part.1 part.2 part.3) part.4 ]
+left_by_memory ask status before now w = elim w.holds [ inl same ↦ inl (same ask.log) | inr part ↦ left_by_cut ask before now part.0 part.1 part.2 (solve_shows before.told ask part.0 part.1 part.2 part.3) part.4 part.5 ]
 
 pub leaves_log : (ask : SolveWords) (status : Status) (before now : Seen) → Solving ask status before now → (status ≡ status_of write_fault) ⊎ (status ≡ status_of no_memory) → LeavesLog ALONE ALONE ask (before.told ask.lib) (before.told ask.log) (now.told ask.log)
 leaves_log ask status before now run is = elim is [

@@ -9,7 +9,8 @@ use Rattle.proof_log.specs.Value.{ended, entry_text, header_text, closing_text}
 use Rattle.proof_log.specs.Log.{log_text_of}
 use Rattle.proof_log.proofs.WholeLogs.{log_parts}
 use Rattle.outside.specs.Told.{Appends, KeptOrEmpty}
-use Rattle.archex_app.specs.Inner.Log.{IsAppended, IsAppendedSome, IsFrontOf, entry_lines}
+use Rattle.archex_app.specs.Files.{IsFrontOf}
+use Rattle.archex_app.specs.Inner.Log.{IsAppended, IsAppendedSome, entry_lines}
 use Rattle.archex_app.proofs.Pieces.{appends_then, appends_no_more}
 
 -- nothing was appended yet

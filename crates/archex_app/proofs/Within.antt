@@ -24,7 +24,7 @@ use Rattle.report.specs.Mass.{mass_text}
 use Rattle.archex_app.specs.Endings.{endings_of}
 use Rattle.archex_app.specs.ComesTo.{ComesTo, CommandComesTo, EndsWith, Reads, ReadsAs, OverLibrary, OverArchitecture, OverSink, SearchComesTo, ALONE, VerdictComesTo, WeighingComesTo, GenerationComesTo}
 use Rattle.archex_app.specs.Search.{base_problem}
-use Rattle.archex_app.specs.Run.{names_of}
+use Rattle.archex_app.specs.Files.{names_of}
 
 -- it ends with one of these endings, and reads and writes none but these files
 pub record Within (Comes : Due → Type 0) (endings : List Ending) (reads writes : List (List ℕ)) : Type 0 where

@@ -11,9 +11,10 @@ use Rattle.archex_app.specs.declared.writing.WriteError.{WriteError}
 use Rattle.archex_app.specs.declared.writing.WriteError.TheVariants.{Memory, Failed}
 use Rattle.archex_app.specs.Status.{Ending, status_of, write_fault, no_memory}
 use Rattle.archex_app.specs.Due.{Due, ends, IsSettled}
-use Rattle.archex_app.specs.Run.{Seen, names_of, OthersKeep, IsRun}
+use Rattle.archex_app.specs.Files.{names_of, IsWhole, IsFrontOf}
+use Rattle.archex_app.specs.Run.{Seen, OthersKeep, IsRun}
 use Rattle.archex_app.specs.Inner.Outcome.{Printed}
-use Rattle.archex_app.specs.Inner.Log.{IsFrontOf, HoldBoth, HoldFronts, FailsAtOne, Concludes}
+use Rattle.archex_app.specs.Inner.Log.{HoldBoth, IsCut, Concludes}
 use Rattle.archex_app.proofs.RunLaws.{Ended}
 use Rattle.archex_app.proofs.Within.{at_0, at_1, only_one}
 use Rattle.archex_app.proofs.Pieces.{on_ok_map, on_err_map}
@@ -37,8 +38,7 @@ pub record WroteAll {T : Type 0} (written : Result T WriteError) (files : List (
   pub reads : Stay before.reads now.reads
   pub rise : NeverFall before.writes now.writes
   pub whole : OnOk written (All (λ (file : List ℕ × List ℕ). IfSome (now.told file.0) (λ bytes. bytes ≡ file.1)) files × Stay before.writes now.writes)
-  pub part : OnErr written (All (λ (file : List ℕ × List ℕ). (now.told file.0 ≡ before.told file.0) ⊎ IfSome (now.told file.0) (λ bytes. (rest : List ℕ) × (file.1 ≡ bytes ++ rest))) files)
-  pub failed : IsErrOf written Failed → FailsAtOne (names_of files) before.writes now.writes
+  pub part : OnErr written (IsCut (IsErrOf written Failed) files before.told now.told before.writes now.writes)
   pub short : IsErrOf written Memory → Stay before.writes now.writes
 
 on_ok_both : {T E Q R : Type 0} (P : Type 0) (r : Result T E) → (Q → R) → OnOk r P → OnOk r Q → OnOk r (P × R)
@@ -59,43 +59,54 @@ file_after written name file before now told reads writes same_told same_reads s
   rise = rise_from before.writes writes now.writes same_writes rise;
   whole = on_ok_both (All (λ (f : List ℕ × List ℕ). IfSome (now.told f.0) (λ bytes. bytes ≡ f.1)) ((name, file) ∷ [])) written (stay_from before.writes writes now.writes same_writes)
       (on_ok_map written (λ w. All-from_recursion (λ (f : List ℕ × List ℕ). IfSome (now.told f.0) (λ bytes. bytes ≡ f.1)) ((name, file) ∷ []) (w, tt)) whole) calm;
-  part = on_err_map written (λ p. All-from_recursion (λ (f : List ℕ × List ℕ). (now.told f.0 ≡ before.told f.0) ⊎ IfSome (now.told f.0) (λ bytes. (rest : List ℕ) × (f.1 ≡ bytes ++ rest))) ((name, file) ∷ [])
-      (subst (λ (o : Option (List ℕ)). IsFrontOf o (now.told name) file) (same_told name) p, tt)) part;
-  failed = λ failed. (name, at_0 name [], subst (λ (n : ℕ). Rose n (now.writes name)) (same_writes name) (rose failed), alone_from (name ∷ []) before.writes writes now.writes same_writes alone);
+  part = on_err_map written (λ p. record {
+    name = name;
+    due = at_0 name [];
+    cut = inl (refl, subst (λ (o : Option (List ℕ)). IsFrontOf o (now.told name) file) (same_told name) p, λ k d short. absurd (omega arith));
+    rose = λ failed. subst (λ (n : ℕ). Rose n (now.writes name)) (same_writes name) (rose failed);
+    alone = λ failed. alone_from (name ∷ []) before.writes writes now.writes same_writes alone;
+  }) part;
   short = λ wanting. stay_from before.writes writes now.writes same_writes (short wanting);
 }
 
 -- two files were, or weren't
-pub both_after : {T : Type 0} (written : Result T WriteError) (file text log entries : List ℕ) (before now : Seen) → OnOk written (HoldBoth now.told file text log entries) → OnErr written (HoldFronts before.told now.told file text log entries)
-    → (IsErrOf written Failed → FailsAtOne (file ∷ log ∷ []) before.writes now.writes) → ((other : List ℕ) → other ≢ file → other ≢ log → now.told other ≡ before.told other) → Stay before.reads now.reads → NeverFall before.writes now.writes
+pub both_after : {T : Type 0} (written : Result T WriteError) (file text log entries : List ℕ) (before now : Seen) → OnOk written (HoldBoth now.told file text log entries) → OnErr written (IsCut (IsErrOf written Failed) ((file, text) ∷ (log, entries) ∷ []) before.told now.told before.writes now.writes)
+    → ((other : List ℕ) → other ≢ file → other ≢ log → now.told other ≡ before.told other) → Stay before.reads now.reads → NeverFall before.writes now.writes
     → OnOk written (Stay before.writes now.writes) → (IsErrOf written Memory → Stay before.writes now.writes) → WroteAll written ((file, text) ∷ (log, entries) ∷ []) before now
-both_after written file text log entries before now whole part failed others reads rise calm short = record {
+both_after written file text log entries before now whole part others reads rise calm short = record {
   others = λ other none. others other (λ is. none (0, omega arith, sym is)) (λ is. none (1, omega arith, sym is));
   reads = reads;
   rise = rise;
   whole = on_ok_both (All (λ (f : List ℕ × List ℕ). IfSome (now.told f.0) (λ bytes. bytes ≡ f.1)) ((file, text) ∷ (log, entries) ∷ [])) written (λ s. s)
       (on_ok_map written (λ w. All-from_recursion (λ (f : List ℕ × List ℕ). IfSome (now.told f.0) (λ bytes. bytes ≡ f.1)) ((file, text) ∷ (log, entries) ∷ []) (w.0, (w.1, tt))) whole) calm;
-  part = on_err_map written (λ p. All-from_recursion (λ (f : List ℕ × List ℕ). (now.told f.0 ≡ before.told f.0) ⊎ IfSome (now.told f.0) (λ bytes. (rest : List ℕ) × (f.1 ≡ bytes ++ rest))) ((file, text) ∷ (log, entries) ∷ []) (p.0, (p.1, tt))) part;
-  failed = failed;
+  part = part;
   short = short;
 }
 
 -- the second of two files couldn't be written
-pub second_fails : (file log : List ℕ) (before mid now : List ℕ → ℕ) → Stay before mid → Rose (mid log) (now log) → ChangesOnly (log ∷ []) mid now → FailsAtOne (file ∷ log ∷ []) before now
-second_fails file log before mid now stay rose alone =
-    let P : ℕ → Type 0 = λ n. Rose n (now log) in
-    (log, at_1 file log [], subst P (stay log) rose, alone_from (log ∷ []) before mid now stay alone)
+pub second_cut : {Q : Type 0} (file text slice log entries : List ℕ) (before mid now : List ℕ → Option (List ℕ)) (faults_before faults_mid faults_now : List ℕ → ℕ) → file ≢ log → slice ≡ text → IsWhole (mid file) slice → ((other : List ℕ) → other ≢ file → mid other ≡ before other) → Stay faults_before faults_mid
+    → IsFrontOf (mid log) (now log) entries → ((other : List ℕ) → other ≢ log → now other ≡ mid other) → (Q → Rose (faults_mid log) (faults_now log)) → ChangesOnly (log ∷ []) faults_mid faults_now → IsCut Q ((file, text) ∷ (log, entries) ∷ []) before now faults_before faults_now
+second_cut file text slice log entries before mid now faults_before faults_mid faults_now apart same whole first stay front second rose alone = record {
+  name = log;
+  due = at_1 file log [];
+  cut = inr (
+    subst (λ (o : Option (List ℕ)). IsWhole o text) (sym (second file apart)) (subst (λ (t : List ℕ). IsWhole (mid file) t) same whole),
+    inl (refl, subst (λ (o : Option (List ℕ)). IsFrontOf o (now log) entries) (first log (λ is. apart (sym is))) front, λ k d short. absurd (omega arith)),
+  );
+  rose = λ failed. subst (λ (n : ℕ). Rose n (faults_now log)) (stay log) (rose failed);
+  alone = λ failed. alone_from (log ∷ []) faults_before faults_mid faults_now stay alone;
+}
 
 -- a write fault changes the count of one name, and other ends none
-changes_among : (names : List (List ℕ)) (before now : List ℕ → ℕ) → FailsAtOne names before now → ChangesOnly names before now
-changes_among names before now failed = λ other. elim (failed.3 other) [
+changes_among : (names : List (List ℕ)) (before now : List ℕ → ℕ) (name : List ℕ) → Contains names name → ChangesOnly (name ∷ []) before now → ChangesOnly names before now
+changes_among names before now name due alone = λ other. elim (alone other) [
   | inl same ↦ inl same
-  | inr one ↦ let P : List ℕ → Type 0 = Contains names in inr (one.0, subst P (sym (only_one failed.0 one.0 one.1)) failed.1, one.2, one.3)
+  | inr one ↦ let P : List ℕ → Type 0 = Contains names in inr (one.0, subst P (sym (only_one name one.0 one.1)) due, one.2, one.3)
 ]
 
 writes_alone : {T : Type 0} (written : Result T WriteError) (files : List (List ℕ × List ℕ)) (before now : Seen) → WroteAll written files before now → ChangesOnly (names_of files) before.writes now.writes
 writes_alone (Ok x) files before now wrote = λ other. inl (wrote.whole.1 other)
-writes_alone (Err Failed) files before now wrote = changes_among (names_of files) before.writes now.writes (wrote.failed refl)
+writes_alone (Err Failed) files before now wrote = changes_among (names_of files) before.writes now.writes wrote.part.name wrote.part.due (wrote.part.alone refl)
 writes_alone (Err Memory) files before now wrote = λ other. inl (wrote.short refl other)
 
 module _ (Comes : Due → Type 0) (files : List (List ℕ × List ℕ)) (outcome : Outcome) (ending : Ending) (status : Status) (before now : Seen) (settled : IsSettled ending) (ended_so : outcome.status ≡ status_of ending) (comes : Comes (ends ending files (cow_slice_items outcome.text))) where
@@ -127,7 +138,6 @@ module _ (Comes : Due → Type 0) (files : List (List ℕ × List ℕ)) (outcome
   ended_after : {T : Type 0} (written : Result T WriteError) → WroteAll written files before now → Concludes written outcome status before.printed now.printed before.prints now.prints → Ended Comes status before now
   ended_after (Ok x) wrote concludes = printed_after x wrote concludes
   ended_after (Err Failed) wrote concludes =
-      let failed = wrote.failed refl in
       inr (inr (inl (record {
         ended_so = concludes.0;
         ending = ending;
@@ -135,20 +145,20 @@ module _ (Comes : Due → Type 0) (files : List (List ℕ × List ℕ)) (outcome
         text = cow_slice_items outcome.text;
         due = comes;
         cause = inl (record {
-          name = failed.0;
-          due = failed.1;
-          rose = failed.2;
-          writes = failed.3;
+          name = wrote.part.name;
+          due = wrote.part.due;
+          rose = wrote.part.rose refl;
+          writes = wrote.part.alone refl;
           prints = concludes.2;
           printed = concludes.1;
-          holds = record { fronts = wrote.part; others = wrote.others };
+          holds = record { cut = wrote.part.cut; others = wrote.others };
         });
         reads = wrote.reads;
       })))
   ended_after (Err Memory) wrote concludes = inr (inr (inr (record {
     ended_so = concludes.0;
     printed = concludes.1;
-    holds = inr (ending, files, cow_slice_items outcome.text, comes, record { fronts = wrote.part; others = wrote.others });
+    holds = inr (ending, files, cow_slice_items outcome.text, comes, wrote.part.name, record { cut = wrote.part.cut; others = wrote.others });
     calm = record { reads = wrote.reads; writes = wrote.short refl; prints = concludes.2 };
   })))
 

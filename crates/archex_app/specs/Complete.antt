@@ -3,7 +3,7 @@ use Rattle.std.specs.Prelude.{◌≡◌, ℕ, ◌^◌, ◌≤◌, List, ◌⊎�
 use Rattle.arch_model.specs.Admissible.{IsAdmissible}
 use Rattle.arch_model.specs.Member.{member_count}
 use Rattle.arch_model.specs.Parts.{LibraryParts, ArchitectureParts}
-use Rattle.generated.specs.GeneratedLibrary.{generated_library}
+use Rattle.generate.specs.Generated.{library_text}
 use Rattle.lib_read.specs.LibraryOf.{library_of}
 use Rattle.arch_csv.specs.ArchitectureOf.{architecture_of_bytes}
 use Rattle.search_core.specs.declared.limits.TheConstants.{BRANCHINGS}
@@ -45,6 +45,6 @@ EndsOverSink name lib_bytes arch_bytes status = MatchResult (library_of lib_byte
 abbrev pub UnlessNoMemory : Status → Type 0 → Type 0
 UnlessNoMemory status Ends = (status ≡ status_of no_memory) ⊎ Ends
 
--- the library of a number is searched under the greatest limit of branchings, unless there was no memory
+-- the text of a number is a library, which is searched under the greatest limit of branchings, unless there was no memory
 abbrev pub CompletesGeneration : GenerateWords → Status → Type 0
-CompletesGeneration ask status = UnlessNoMemory status (Solves (generated_library ask.number ask.size) BRANCHINGS status)
+CompletesGeneration ask status = UnlessNoMemory status (MatchResult (library_of (library_text ask.number ask.size)) (λ lib. Solves lib BRANCHINGS status) (λ _. ⊥))

@@ -8,6 +8,7 @@ pub mod Mass
 pub mod Due
 pub mod ComesTo
 pub mod Endings
+pub mod Files
 pub mod Run
 pub mod Answer
 pub mod Checked

@@ -1,5 +1,5 @@
 -- How a run goes, said once for all commands: what it comes to, which fault cuts it short, and what it leaves.
-use Rattle.std.specs.Prelude.{◌≡◌, ◌≤◌, ℕ, Option, List, [], ◌∷◌, ◌++◌, ◌⊎◌, Result, IsErr, IfSome, All, Contains, map}
+use Rattle.std.specs.Prelude.{◌≡◌, ◌≤◌, ℕ, Option, List, [], ◌∷◌, ◌++◌, ◌⊎◌, Result, IsErr, All, Contains}
 use Rattle.outside.specs.Faults.{Rose, NeverFall, Stay, ChangesOnly}
 use Rattle.outside.specs.Told.{Appends}
 use Rattle.archex_app.specs.declared.status.Status.{Status}
@@ -7,6 +7,7 @@ use Rattle.archex_app.specs.Status.{Ending, status_of, read_fault, write_fault, 
 use Rattle.archex_app.specs.Due.{Due, ends, unread, IsSettled}
 use Rattle.archex_app.specs.Words.{Asked, files_of, files_read, files_written}
 use Rattle.archex_app.specs.ComesTo.{ComesTo}
+use Rattle.archex_app.specs.Files.{names_of, IsWhole, IsCutAt}
 
 -- what is seen of a shelf and a sink at a moment: the bytes under each name and those that were printed, where they are told, and the counts of faults
 pub record Seen : Type 0 where
@@ -24,18 +25,14 @@ seen told reads writes printed prints = record { told = told; reads = reads; wri
 abbrev pub OthersKeep : List (List ℕ) → Seen → Seen → Type 0
 OthersKeep names before now = (name : List ℕ) → (Contains names name → ⊥) → now.told name ≡ before.told name
 
--- the names of files that are due
-abbrev pub names_of : List (List ℕ × List ℕ) → List (List ℕ)
-names_of files = map (λ (file : List ℕ × List ℕ). file.0) files
-
 -- the files hold what is due, where they are told, and other names what they held
 pub record HoldsAll (files : List (List ℕ × List ℕ)) (before now : Seen) : Type 0 where
-  pub whole : All (λ (file : List ℕ × List ℕ). IfSome (now.told file.0) (λ bytes. bytes ≡ file.1)) files
+  pub whole : All (λ (file : List ℕ × List ℕ). IsWhole (now.told file.0) file.1) files
   pub others : OthersKeep (names_of files) before now
 
--- each of the files holds what it held before, or a front of what is due, where it is told, and other names what they held
-pub record HoldsFronts (files : List (List ℕ × List ℕ)) (before now : Seen) : Type 0 where
-  pub fronts : All (λ (file : List ℕ × List ℕ). (now.told file.0 ≡ before.told file.0) ⊎ IfSome (now.told file.0) (λ bytes. (rest : List ℕ) × (file.1 ≡ bytes ++ rest))) files
+-- the files were written one after another up to that of this name, and other names hold what they held
+pub record HoldsUpTo (name : List ℕ) (files : List (List ℕ × List ℕ)) (before now : Seen) : Type 0 where
+  pub cut : IsCutAt name files before.told now.told
   pub others : OthersKeep (names_of files) before now
 
 -- a front of the text was printed
@@ -76,7 +73,7 @@ pub record FailsToRead (Comes : Due → Type 0) (status : Status) (before now : 
   pub printed : now.printed ≡ before.printed
   pub kept : (other : List ℕ) → now.told other ≡ before.told other
 
--- one of the files couldn't be written whole: its count of write faults rose and no other, the files hold fronts, and nothing was printed
+-- one of the files couldn't be written whole: its count of write faults rose and no other, the files were written up to it, and nothing was printed
 pub record FailsAtFile (files : List (List ℕ × List ℕ)) (before now : Seen) : Type 0 where
   pub name : List ℕ
   pub due : Contains (names_of files) name
@@ -84,7 +81,7 @@ pub record FailsAtFile (files : List (List ℕ × List ℕ)) (before now : Seen)
   pub writes : ChangesOnly (name ∷ []) before.writes now.writes
   pub prints : now.prints ≡ before.prints
   pub printed : now.printed ≡ before.printed
-  pub holds : HoldsFronts files before now
+  pub holds : HoldsUpTo name files before now
 
 -- the text couldn't be printed whole: the sink's count rose, a front of the text was printed, and the files hold what is due
 pub record FailsAtText (files : List (List ℕ × List ℕ)) (text : List ℕ) (before now : Seen) : Type 0 where
@@ -103,12 +100,12 @@ pub record FailsToWrite (Comes : Due → Type 0) (status : Status) (before now :
   pub cause : FailsAtFile files before now ⊎ FailsAtText files text before now
   pub reads : Stay before.reads now.reads
 
--- there was no memory: nothing was printed, and no file was changed, or the files hold fronts of what was due
+-- there was no memory: nothing was printed, and no file was changed, or the files were written up to one of them
 pub record WantsMemory (Comes : Due → Type 0) (status : Status) (before now : Seen) : Type 0 where
   pub ended_so : status ≡ status_of no_memory
   pub printed : now.printed ≡ before.printed
   pub holds : ((name : List ℕ) → now.told name ≡ before.told name)
-      ⊎ ((ending : Ending) × (files : List (List ℕ × List ℕ)) × (text : List ℕ) × Comes (ends ending files text) × HoldsFronts files before now)
+      ⊎ ((ending : Ending) × (files : List (List ℕ × List ℕ)) × (text : List ℕ) × Comes (ends ending files text) × (name : List ℕ) × HoldsUpTo name files before now)
   pub calm : IsCalm before now
 
 -- a run of which this may come, and which reads and writes these files alone

@@ -47,6 +47,26 @@ pub record IsLimitSpent (lib : LibraryParts) (limit : ℕ) (entries : List Entry
   pub cube : CubeParts
   pub parked : get state.nodes number ≡ Some (Parked cube)
 
+-- what a history by a team of workers and analysts shows of a library and a limit, with the state to which it leads and its answer
+pub record ShowsAnswer (workers analysts : ℕ) (lib : LibraryParts) (limit : ℕ) (entries : List Entry) (state : SearchState) (answer : Answer) : Type 0 where
+  -- the history is legal for the library and the limit, diligent for the team, changes no limit, and the answer is its state's
+  pub search : IsSearch lib limit workers analysts entries state answer
+  -- where the answer is optimal, the state's best is admissible, has the answer's cost, and nothing admissible costs less
+  pub optimal : (cost : ℕ) → answer ≡ Optimal cost → IsSomeAnd state.best (IsLeastBest lib cost)
+  -- where it is infeasible, nothing is admissible
+  pub none_meets : answer ≡ Infeasible → NoneAdmissible lib
+  -- the limit of branchings is the answer only where it was spent
+  pub at_limit : (incumbent : Option ℕ) → answer ≡ NodeLimit incumbent → IsLimitSpent lib limit entries state
+  -- unless the limit came first, the history is complete: nothing is left that might be searched
+  pub complete : ((incumbent : Option ℕ) → answer ≡ NodeLimit incumbent → ⊥) → IsComplete state
+  -- whatever the answer, the state's best is admissible
+  pub best : IfSome state.best (IsAdmissibleBest lib)
+  -- the history's log passes, with the same answer
+  pub passes : Accepts (base_problem lib) (search_log lib limit entries state answer) answer
+  -- each cut that was published holds in every admissible architecture
+  pub cuts_hold : (first rest : List Entry) (worker node : ℕ) (cut : Cut) → entries ≡ first ++ Publish worker node cut ∷ rest
+      → CutHolds lib limit first worker node cut
+
 -- what a run by a team of workers and analysts shows with these words and this status, from what the shelf told of the library at the start, what it tells of the log at the end, and what was printed before and after
 pub record ShowsSearch (workers analysts : ℕ) (ask : SolveWords) (status : Status) (lib_told log_told before now : Option (List ℕ)) : Type 0 where
   -- the library that was read: that of the bytes that the shelf told, or where it told none, of some bytes
@@ -54,33 +74,17 @@ pub record ShowsSearch (workers analysts : ℕ) (ask : SolveWords) (status : Sta
   pub told : IfSome lib_told (λ all. bytes ≡ all)
   pub lib : LibraryParts
   pub read : library_of bytes ≡ Ok lib
-  -- one history, the state to which it leads, and its answer
+  -- one history of it, the state to which it leads, and its answer
   pub entries : List Entry
   pub state : SearchState
   pub answer : Answer
-  -- the history is legal for the library and the limit, diligent for the team, changes no limit, and the answer is its state's
-  pub search : IsSearch lib ask.branchings workers analysts entries state answer
-  -- where the answer is optimal, the state's best is admissible, has the answer's cost, and nothing admissible costs less
-  pub optimal : (cost : ℕ) → answer ≡ Optimal cost → IsSomeAnd state.best (IsLeastBest lib cost)
-  -- where it is infeasible, nothing is admissible
-  pub none_meets : answer ≡ Infeasible → NoneAdmissible lib
-  -- the limit of branchings is the answer only where it was spent
-  pub at_limit : (incumbent : Option ℕ) → answer ≡ NodeLimit incumbent → IsLimitSpent lib ask.branchings entries state
-  -- unless the limit came first, the history is complete: nothing is left that might be searched
-  pub complete : ((incumbent : Option ℕ) → answer ≡ NodeLimit incumbent → ⊥) → IsComplete state
-  -- whatever the answer, the state's best is admissible
-  pub best : IfSome state.best (IsAdmissibleBest lib)
+  pub shows : ShowsAnswer workers analysts lib ask.branchings entries state answer
   -- the status is the answer's
   pub ended_so : status ≡ status_of (ending_of answer)
   -- the answer's report was printed, and nothing else
   pub printed : Appends before now (search_report lib state answer)
   -- the bytes under the log's name are the log of this history
   pub log : IfSome log_told (λ log. log ≡ search_log lib ask.branchings entries state answer)
-  -- that log passes, with the same answer
-  pub passes : Accepts (base_problem lib) (search_log lib ask.branchings entries state answer) answer
-  -- each cut that was published holds in every admissible architecture
-  pub cuts_hold : (first rest : List Entry) (worker node : ℕ) (cut : Cut) → entries ≡ first ++ Publish worker node cut ∷ rest
-      → CutHolds lib ask.branchings first worker node cut
 
 -- a search by a team with these words, of the library that the shelf told, or where it told none, of some library
 pub record SomeSearch (workers analysts : ℕ) (ask : SolveWords) (lib_told : Option (List ℕ)) : Type 0 where

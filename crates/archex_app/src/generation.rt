@@ -1,7 +1,7 @@
 // What `generate` does.
 ghost use Rattle.std.specs.Prelude.{◌≡◌, ◌≢◌, ℕ, ◌≤◌, List, [], ◌∷◌, Ok, IfOk, OnOk, OnErr, IsErrOf};
 ghost use Rattle.std.specs.Cow.{cow_slice_items};
-ghost use Rattle.outside.specs.Faults.{Stay, ChangesOnly};
+ghost use Rattle.outside.specs.Faults.{Stay};
 ghost use Rattle.generate.specs.declared.text.TheConstants as sizes;
 ghost use Rattle.search_core.specs.declared.limits.TheConstants as limits;
 ghost use Rattle.report.specs.Summary as spec;
@@ -9,7 +9,7 @@ ghost use Rattle.archex_app.specs.Status.{status_of, ending_of};
 ghost use Rattle.archex_app.specs.Words.{generate};
 ghost use Rattle.archex_app.specs.Run.{Runs, seen};
 ghost use Rattle.archex_app.specs.Inner.Searched.{IsMade, log_of};
-ghost use Rattle.archex_app.specs.Inner.Log.{HoldBoth, HoldFronts, FailsAtOne};
+ghost use Rattle.archex_app.specs.Inner.Log.{HoldBoth, IsCut};
 
 use crate::log_file::write_log;
 use crate::outcome::{Outcome, conclude};
@@ -77,10 +77,9 @@ fn write_both<F: Shelf>(
     requires { file.now ≢ log.now }
     ensures whole { OnOk result (HoldBoth (F.told shelf.new)
         file.now made.now.text.items log.now (log_of limits.BRANCHINGS made.now.searched)) }
-    ensures part { OnErr result (HoldFronts (F.told shelf.old) (F.told shelf.new)
-        file.now made.now.text.items log.now (log_of limits.BRANCHINGS made.now.searched)) }
-    ensures failed { IsErrOf result WriteError.Failed
-        → FailsAtOne (file.now ∷ log.now ∷ []) (F.write_faults shelf.old) (F.write_faults shelf.new) }
+    ensures part { OnErr result (IsCut (IsErrOf result WriteError.Failed)
+        ((file.now, made.now.text.items) ∷ (log.now, log_of limits.BRANCHINGS made.now.searched) ∷ [])
+        (F.told shelf.old) (F.told shelf.new) (F.write_faults shelf.old) (F.write_faults shelf.new)) }
 
     ensures told_stays { (other : List ℕ) → other ≢ file.now → other ≢ log.now
         → F.told shelf.new other ≡ F.told shelf.old other }

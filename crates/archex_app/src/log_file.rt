@@ -5,7 +5,8 @@ ghost use Rattle.outside.specs.Faults.{Rose, Stay, ChangesOnly};
 ghost use Rattle.outside.specs.Told.{Appends};
 ghost use Rattle.proof_log.specs.Value.{ended, entry_text, header_text, closing_text};
 ghost use Rattle.proof_log.specs.Log.{log_text_of};
-ghost use Rattle.archex_app.specs.Inner.Log.{IsAppended, IsAppendedSome, IsFrontOf, entry_lines};
+ghost use Rattle.archex_app.specs.Files.{IsFrontOf};
+ghost use Rattle.archex_app.specs.Inner.Log.{IsAppended, IsAppendedSome, entry_lines};
 
 use crate::writing::{WriteError, append_all};
 use outside::{Failed, Shelf};

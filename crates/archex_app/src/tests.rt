@@ -1,3 +1,4 @@
+use crate::tests_of_probability::{B, CHAIN};
 use crate::{Status, run_plain, run_surely};
 use outside::{Failed, MemShelf, MemSink, Shelf, Sink, SureShelf, SureSink};
 use std::alloc::{AllocError, Global};
@@ -585,15 +586,38 @@ fn the_log_is_written_whole(rt: HostRuntime) -> Result<(), Fail> {
     Ok(())
 }
 
+// How a run ends over a shelf and a sink that never fail, where `l` is a library and `a` an
+// architecture of it.
+fn ended_surely(alloc: Global, words: &[&str]) -> Result<Status, AllocError> {
+    let words = words_of(alloc, words)?;
+    let mut shelf = SureShelf::new(alloc);
+    shelf.put("l", B)?;
+    shelf.put("a", CHAIN)?;
+    let status = run_surely(alloc, words.as_slice(), &mut shelf, &mut SureSink);
+    Ok(status)
+}
+
+// A name that wasn't put has no bytes, so it is no architecture and no log, and a library of nothing.
 #[test]
 fn nothing_fails_where_nothing_can(rt: HostRuntime) -> Result<(), Fail> {
-    let alloc = rt.alloc();
-    let mut shelf = SureShelf::new(alloc);
-    shelf.put("x.toml", X)?;
-    let words = words_of(alloc, SOLVE)?;
-    let status = run_surely(alloc, words.as_slice(), &mut shelf, &mut SureSink);
-    assert_eq!(rt; status, Status(0));
-    let status = run_surely(alloc, &[], &mut shelf, &mut SureSink);
-    assert_eq!(rt; status, Status(4));
+    let rows: [(&[&str], u8); 14] = [
+        (&["solve", "l", "g", "100000", "1", "0"], 0),
+        (&["check", "l", "g"], 8),
+        (&["weigh", "l", "a"], 0),
+        (&["weigh", "l", "g"], 9),
+        (&["cuts", "l", "a", "load.1"], 0),
+        (&["cuts", "l", "a", "bus.1"], 4),
+        (&["probability", "l", "a", "load.1"], 0),
+        (&["probability", "l", "l", "load.1"], 9),
+        (&["template", "l"], 0),
+        (&["template", "a"], 3),
+        (&["rows", "l"], 0),
+        (&["rows", "g"], 0),
+        (&["generate", "0", "1", "f", "g"], 0),
+        (&[], 4),
+    ];
+    for (words, ended) in rows {
+        assert_eq!(rt; ended_surely(rt.alloc(), words)?, Status(ended));
+    }
     Ok(())
 }

@@ -32,13 +32,14 @@ struct Left {
     log: Vec<u8>,
 }
 
-// What a run of some words leaves, of files that had a text, with one call failing.
-fn run_on(alloc: Global, words: &[&str], failing: u64) -> Result<Left, AllocError> {
+// What a run of some words leaves, of files that had a text, with one call of the shelf and one of the
+// sink failing.
+fn run_on(alloc: Global, words: &[&str], failing: u64, cut: u64) -> Result<Left, AllocError> {
     let words = words_of(alloc, words)?;
     let mut shelf = MemShelf::new(alloc, 1 << 20, &[failing])?;
     shelf.put("f", b"file")?;
     shelf.put("g", b"log")?;
-    let mut sink = MemSink::new(alloc, 4096, &[])?;
+    let mut sink = MemSink::new(alloc, 4096, &[cut])?;
     let status = run_plain(alloc, words.as_slice(), &mut shelf, &mut sink);
     Ok(Left {
         status,
@@ -68,19 +69,36 @@ fn numbers_have_their_least_costs(rt: HostRuntime) -> Result<(), Fail> {
         ),
     ];
     for (words, text) in rows {
-        let left = run_on(rt.alloc(), words, 99)?;
+        let left = run_on(rt.alloc(), words, 99, 99)?;
         assert_eq!(rt; left.status, Status(0));
         assert_eq!(rt; left.printed.as_slice(), text);
     }
     Ok(())
 }
 
-// The library is written before its log, in a call that clears each file and one that writes it.
-// Whichever fails, nothing is printed, and what was written before stays.
+// What was written is a library, and a log of it that passes with the answer that was printed.
+#[test]
+fn what_is_generated_passes(rt: HostRuntime) -> Result<(), Fail> {
+    let generate = words_of(rt.alloc(), &["generate", "0", "2", "f", "g"])?;
+    let check = words_of(rt.alloc(), &["check", "f", "g"])?;
+    let mut shelf = MemShelf::new(rt.alloc(), 1 << 20, &[])?;
+    shelf.put("f", b"")?;
+    shelf.put("g", b"")?;
+    let mut sink = MemSink::new(rt.alloc(), 4096, &[])?;
+    let made = run_plain(rt.alloc(), generate.as_slice(), &mut shelf, &mut sink);
+    assert_eq!(rt; made, Status(0));
+    let passed = run_plain(rt.alloc(), check.as_slice(), &mut shelf, &mut sink);
+    assert_eq!(rt; passed, Status(0));
+    assert!(rt; sink.bytes().ends_with(b"cost 114\nyes optimal 114\n"));
+    Ok(())
+}
+
+// The library is written before its log, in a call that clears each file and one that writes it, and
+// then the summary is printed. Whichever fails, nothing is printed, and what was written before stays.
 #[test]
 fn both_files_are_written_in_order(rt: HostRuntime) -> Result<(), Fail> {
     let words = &["generate", "0", "1", "f", "g"];
-    let whole = run_on(rt.alloc(), words, 99)?;
+    let whole = run_on(rt.alloc(), words, 99, 99)?;
     assert_eq!(rt; whole.status, Status(0));
     assert_eq!(rt; whole.file.as_slice(), ONE_OF_0);
     assert!(rt;
@@ -89,18 +107,19 @@ fn both_files_are_written_in_order(rt: HostRuntime) -> Result<(), Fail> {
             .as_slice()
             .starts_with(b"archex-log 1\nvars 3 2\nlimit 100000\n")
     );
-    let rows: [(&[u8], &[u8]); 4] = [
-        (b"file", b"log"),
-        (b"", b"log"),
-        (ONE_OF_0, b"log"),
-        (ONE_OF_0, b""),
+    let rows: [(u64, u64, &[u8], &[u8]); 5] = [
+        (0, 99, b"file", b"log"),
+        (1, 99, b"", b"log"),
+        (2, 99, ONE_OF_0, b"log"),
+        (3, 99, ONE_OF_0, b""),
+        (99, 0, ONE_OF_0, whole.log.as_slice()),
     ];
-    for (call, (file, log)) in rows.iter().enumerate() {
-        let left = run_on(rt.alloc(), words, call as u64)?;
+    for (failing, cut, file, log) in rows {
+        let left = run_on(rt.alloc(), words, failing, cut)?;
         assert_eq!(rt; left.status, Status(6));
         assert_eq!(rt; left.printed.len(), 0);
-        assert_eq!(rt; left.file.as_slice(), *file);
-        assert_eq!(rt; left.log.as_slice(), *log);
+        assert_eq!(rt; left.file.as_slice(), file);
+        assert_eq!(rt; left.log.as_slice(), log);
     }
     Ok(())
 }
@@ -109,8 +128,9 @@ fn both_files_are_written_in_order(rt: HostRuntime) -> Result<(), Fail> {
 // and else the leftmost is bad.
 #[test]
 fn bad_numbers_are_refused(rt: HostRuntime) -> Result<(), Fail> {
-    let rows: [(&[&str], &[u8]); 14] = [
+    let rows: [(&[&str], &[u8]); 15] = [
         (&["generate"], b"refused words 2\n"),
+        (&["generate", "0"], b"refused words 3\n"),
         (&["generate", "", ""], b"refused words 4\n"),
         (&["generate", "0", "5", "f"], b"refused words 5\n"),
         (&["generate", "0", "5", "f", "g", ""], b"refused words 6\n"),
@@ -132,7 +152,7 @@ fn bad_numbers_are_refused(rt: HostRuntime) -> Result<(), Fail> {
         (&["generate", "0", "5", "f", "f"], b"refused words 5\n"),
     ];
     for (words, text) in rows {
-        let left = run_on(rt.alloc(), words, 99)?;
+        let left = run_on(rt.alloc(), words, 99, 99)?;
         assert_eq!(rt; left.status, Status(4));
         assert_eq!(rt; left.printed.as_slice(), text);
         assert_eq!(rt; left.file.as_slice(), b"file".as_slice());

@@ -128,11 +128,12 @@ weight load.1 1200000000000000 of 1000000000000000000 meets\nadmissible yes\n",
     Ok(())
 }
 
-// The cut sets of two separate chains, of one chain, and of a sink without a path, which no failure
-// parts from the sources: the empty set has its product alone.
+// The cut sets of two separate chains, of one chain, and of a sink without a path and one that isn't
+// there, which nothing has to fail to part from the sources: the empty set has its product alone.
 #[test]
 fn cut_sets_are_listed(rt: HostRuntime) -> Result<(), Fail> {
-    let rows: [(&[u8], &[u8]); 3] = [
+    let apart: &[u8] = b"1000000000000000000\nsets 1\nsum 1000000000000000000\n";
+    let rows: [(&[u8], &[u8]); 4] = [
         (
             CHAINS,
             b"1000000000000 gen.1 gen.2
@@ -147,10 +148,8 @@ sum 1210000000000
             CHAIN,
             b"1000000000000000 gen.1\n100000000000000 bus.1\nsets 2\nsum 1100000000000000\n",
         ),
-        (
-            b"kind,from,to\ncomponent,load.1,\n",
-            b"1000000000000000000\nsets 1\nsum 1000000000000000000\n",
-        ),
+        (b"kind,from,to\ncomponent,load.1,\n", apart),
+        (b"kind,from,to\ncomponent,gen.1,\n", apart),
     ];
     for (architecture, text) in rows {
         let words = &["cuts", "l", "a", "load.1"];
@@ -195,7 +194,7 @@ fn what_is_wrong_is_printed(rt: HostRuntime) -> Result<(), Fail> {
     let fault = b"refused library L3 UnknownKey library 0 zz\n";
     let bad: &[u8] = b"zz = 1";
     let header: &[u8] = b"kind,from\n";
-    let rows: [(&[&str], &[u8], &[u8], u8, &[u8]); 19] = [
+    let rows: [(&[&str], &[u8], &[u8], u8, &[u8]); 25] = [
         (&["weigh", "l", "a"], bad, header, 3, fault),
         (&["cuts", "l", "a", "bus.1"], bad, header, 3, fault),
         (&["template", "l"], bad, b"", 3, fault),
@@ -226,11 +225,23 @@ fn what_is_wrong_is_printed(rt: HostRuntime) -> Result<(), Fail> {
         (&["weigh", "l", "a", ""], B, CHAIN, 4, b"refused words 4\n"),
         (&["weigh", "", ""], B, CHAIN, 4, b"refused words 2\n"),
         (&["weigh", "l", ""], B, CHAIN, 4, b"refused words 3\n"),
+        (&["cuts"], B, CHAIN, 4, b"refused words 2\n"),
+        (&["cuts", "l"], B, CHAIN, 4, b"refused words 3\n"),
         (&["cuts", "l", "a"], B, CHAIN, 4, b"refused words 4\n"),
         (&["cuts", "l", "a", ""], B, CHAIN, 4, b"refused words 4\n"),
+        (&["cuts", "", "a", "s"], B, CHAIN, 4, b"refused words 2\n"),
+        (&["cuts", "l", "", "s"], B, CHAIN, 4, b"refused words 3\n"),
+        (
+            &["cuts", "l", "a", "s", "x"],
+            B,
+            CHAIN,
+            4,
+            b"refused words 5\n",
+        ),
         (&["template"], B, CHAIN, 4, b"refused words 2\n"),
         (&["template", ""], B, CHAIN, 4, b"refused words 2\n"),
         (&["template", "l", "a"], B, CHAIN, 4, b"refused words 3\n"),
+        (&["rows"], B, CHAIN, 4, b"refused words 2\n"),
         (&["rows", "a", "b"], B, CHAIN, 4, b"refused words 3\n"),
         (&["rows", ""], B, CHAIN, 4, b"refused words 2\n"),
     ];

@@ -2,7 +2,8 @@
 ghost use Rattle.std.specs.Prelude.{◌≡◌, ◌≢◌, ℕ, ◌≤◌, List, [], ◌∷◌, OnOk, OnErr, IfSome};
 ghost use Rattle.outside.specs.Faults.{Rose, Stay, ChangesOnly};
 ghost use Rattle.outside.specs.Told.{Appends};
-ghost use Rattle.archex_app.specs.Inner.Log.{IsAppendedSome, IsFrontOf};
+ghost use Rattle.archex_app.specs.Files.{IsFrontOf};
+ghost use Rattle.archex_app.specs.Inner.Log.{IsAppendedSome};
 
 use outside::{Failed, Shelf};
 use std::alloc::AllocError;

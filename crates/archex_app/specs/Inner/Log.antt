@@ -11,6 +11,7 @@ use Rattle.archex_app.specs.declared.outcome.Outcome.{Outcome}
 use Rattle.archex_app.specs.declared.writing.WriteError.{WriteError}
 use Rattle.archex_app.specs.declared.writing.WriteError.TheVariants.{Memory, Failed}
 use Rattle.archex_app.specs.Status.{status_of, write_fault, no_memory}
+use Rattle.archex_app.specs.Files.{names_of, IsCutAt}
 use Rattle.archex_app.specs.Inner.Outcome.{Printed}
 
 -- the lines of entries
@@ -27,21 +28,17 @@ pub record IsAppended (before now : Option (List ℕ)) (text left : List ℕ) : 
 abbrev pub IsAppendedSome : Option (List ℕ) → Option (List ℕ) → List ℕ → Type 0
 IsAppendedSome before now text = (left : List ℕ) × IsAppended before now text left
 
--- a file holds what it held, or where it is told, a front of a text
-abbrev pub IsFrontOf : Option (List ℕ) → Option (List ℕ) → List ℕ → Type 0
-IsFrontOf before now text = (now ≡ before) ⊎ IfSome now (λ bytes. (rest : List ℕ) × (text ≡ bytes ++ rest))
-
 -- two files hold two texts, where they are told
 abbrev pub HoldBoth : (List ℕ → Option (List ℕ)) → List ℕ → List ℕ → List ℕ → List ℕ → Type 0
 HoldBoth now first first_text second second_text = IfSome (now first) (λ bytes. bytes ≡ first_text) × IfSome (now second) (λ bytes. bytes ≡ second_text)
 
--- each of two files holds what it held, or where it is told, a front of its text
-abbrev pub HoldFronts : (List ℕ → Option (List ℕ)) → (List ℕ → Option (List ℕ)) → List ℕ → List ℕ → List ℕ → List ℕ → Type 0
-HoldFronts before now first first_text second second_text = IsFrontOf (before first) (now first) first_text × IsFrontOf (before second) (now second) second_text
-
--- the count of one of these names rose, and no other
-abbrev pub FailsAtOne : List (List ℕ) → (List ℕ → ℕ) → (List ℕ → ℕ) → Type 0
-FailsAtOne names before now = (name : List ℕ) × Contains names name × Rose (before name) (now name) × ChangesOnly (name ∷ []) before now
+-- files were written up to one of them; where a write failed, the count of that one rose, and no other
+pub record IsCut (failed : Type 0) (files : List (List ℕ × List ℕ)) (before now : List ℕ → Option (List ℕ)) (faults_before faults_now : List ℕ → ℕ) : Type 0 where
+  pub name : List ℕ
+  pub due : Contains (names_of files) name
+  pub cut : IsCutAt name files before now
+  pub rose : failed → Rose (faults_before name) (faults_now name)
+  pub alone : failed → ChangesOnly (name ∷ []) faults_before faults_now
 
 -- how a run ends with an outcome once its files were written, or weren't: only after whole files is anything printed
 abbrev pub Concludes : {T : Type 0} → Result T WriteError → Outcome → Status → Option (List ℕ) → Option (List ℕ) → ℕ → ℕ → Type 0
