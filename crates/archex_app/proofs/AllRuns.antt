@@ -1,6 +1,5 @@
 -- What is said of all runs: which of the four ways a status is, which faults rose, and what stays.
 use Rattle.std.proofs.Common.{◌≡◌, ◌≢◌, ℕ, true, false, List, [], Ok, Err, IsErr, Result, refl, sym, ap, subst, ◌∙◌, arith, inl, inr, ◌⊎◌}
-use Rattle.std.specs.Prelude.{Contains}
 use Rattle.std.proofs.lemmas.List.Elements.{Contains-append_left, Contains-append_right}
 use Rattle.outside.specs.Faults.{Rose, Stay}
 use Rattle.outside.specs.Told.{Appends}

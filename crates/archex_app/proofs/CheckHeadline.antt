@@ -13,18 +13,18 @@ use Rattle.log_checker.specs.Yes.{last_limit}
 use Rattle.log_checker.proofs.YesLaws.{yes_optimal, yes_infeasible, yes_limit, yes_incumbent}
 use Rattle.log_checker.proofs.FirstLines.{passing_unbroken}
 use Rattle.archex_app.specs.declared.status.Status.{Status}
-use Rattle.archex_app.specs.Status.{Ending, status_of, done, library_refused, log_refused, no_memory}
-use Rattle.archex_app.specs.Due.{ends, unread}
+use Rattle.archex_app.specs.Status.{Ending, status_of, done, library_refused, log_refused}
+use Rattle.archex_app.specs.Due.{ends}
 use Rattle.archex_app.specs.Words.{check}
 use Rattle.archex_app.specs.Search.{base_problem}
 use Rattle.archex_app.specs.Verdict.{IsPassing}
 use Rattle.report.specs.Refusal.{refused_library_text}
-use Rattle.archex_app.specs.Answer.{ShowsRefusal, Prints, PrintsOver}
+use Rattle.archex_app.specs.Answer.{ShowsRefusal, PrintsOver}
 use Rattle.archex_app.specs.Checked.{IsRight, ShowsYes, ShowsNo, CheckEnds, CompletesCheck}
 use Rattle.archex_app.specs.ComesTo.{ComesTo, VerdictComesTo, Reads, EndsWith}
-use Rattle.archex_app.specs.Run.{Seen, EndsAsDue, FailsToRead, RoseAmong, Runs}
-use Rattle.archex_app.proofs.Within.{same_ending, same_text, same_name, no_read, either_name}
-use Rattle.archex_app.proofs.AllRuns.{as_due, as_read, read_among, write_rose, nothing_among}
+use Rattle.archex_app.specs.Run.{Seen, EndsAsDue, RoseAmong, Runs}
+use Rattle.archex_app.proofs.Within.{same_ending, same_text, no_read, either_name}
+use Rattle.archex_app.proofs.AllRuns.{as_due, read_among, write_rose, nothing_among}
 use Rattle.archex_app.proofs.OverFiles.{not_of}
 
 -- ---- a verdict

@@ -1,6 +1,5 @@
 -- From a log that was judged, or wasn't, to what comes of `check`.
-use Rattle.std.proofs.Common.{◌≡◌, ℕ, Option, List, [], Result, Ok, Err, IfSome, IfOk, IfErr, OnOk, refl, sym, ap, subst, ◌∙◌, inl, inr}
-use Rattle.std.specs.Cow.{cow_slice_items}
+use Rattle.std.proofs.Common.{◌≡◌, ℕ, Option, List, [], Result, Ok, Err, IfOk, IfErr, OnOk, refl, sym, ap, subst, inl, inr}
 use Rattle.outside.specs.Faults.{Stay}
 use Rattle.arch_model.specs.Library.{IsLibrary}
 use Rattle.arch_model.specs.Parts.{LibraryParts}
@@ -13,13 +12,11 @@ use Rattle.archex_app.specs.declared.check.Halt.{Halt}
 use Rattle.archex_app.specs.declared.check.Halt.TheVariants.{Memory, Failed, No}
 use Rattle.archex_app.specs.declared.outcome.Outcome.{Outcome}
 use Rattle.archex_app.specs.declared.outcome.Stop.{Stop}
-use Rattle.archex_app.specs.declared.outcome.Stop.TheVariants.{NoMemory, Unread, Refused}
-use Rattle.archex_app.specs.Status.{status_of, done, library_refused, log_refused}
+use Rattle.archex_app.specs.Status.{done, library_refused, log_refused}
 use Rattle.archex_app.specs.Due.{ends}
 use Rattle.archex_app.specs.Words.{check}
 use Rattle.report.specs.Refusal.{refused_library_text}
 use Rattle.archex_app.specs.Search.{base_problem}
-use Rattle.report.specs.Verdict.{yes_text, no_text}
 use Rattle.archex_app.specs.ComesTo.{CommandComesTo, Reads, VerdictComesTo}
 use Rattle.archex_app.specs.Inner.Outcome.{Settles, IsRead, StopsAt}
 use Rattle.archex_app.specs.Inner.Checking.{OfBytes, HaltsRight, HaltReads, Tells}

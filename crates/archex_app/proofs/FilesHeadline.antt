@@ -1,5 +1,5 @@
 -- What runs of the commands that read and print say, from what is said of all runs.
-use Rattle.std.proofs.Common.{◌≡◌, ℕ, ◌<◌, Bool, true, false, nat_lt, Option, Some, List, [], ◌∷◌, length, Ok, Err, Result, refl, sym, ap, subst, ◌∙◌, arith, inl, inr, ◌⊎◌, if◌then◌else◌}
+use Rattle.std.proofs.Common.{◌≡◌, ℕ, Bool, true, false, nat_lt, Some, List, [], ◌∷◌, length, Ok, Err, Result, refl, sym, ap, subst, ◌∙◌, arith, inl, inr, ◌⊎◌, if◌then◌else◌}
 use Rattle.std.specs.Prelude.{MatchResult, Contains}
 use Rattle.arch_model.specs.Parts.{LibraryParts, ArchitectureParts}
 use Rattle.arch_model.specs.Architecture.{IsArchitecture}
@@ -23,8 +23,9 @@ use Rattle.report.specs.Template.{template_text}
 use Rattle.report.proofs.AdmissibleLaws.{last_line}
 use Rattle.archex_app.specs.declared.status.Status.{Status}
 use Rattle.archex_app.specs.Status.{Ending, number_of, status_of, done, infeasible, node_limit, library_refused, words_refused, read_fault, write_fault, no_memory, log_refused, architecture_refused}
-use Rattle.archex_app.specs.Due.{Due, ends}
-use Rattle.archex_app.specs.Words.{Asked, weigh, cuts, probability, template, rows, texts, command_of, files_of, files_read, AskOfSink, AskOfArchitecture, AskForList, ReadsLibrary}
+use Rattle.archex_app.specs.Due.{ends}
+use Rattle.archex_app.specs.Words.{Asked, weigh, cuts, probability, template, rows, command_of, AskOfSink, AskOfArchitecture, AskForList, ReadsLibrary}
+use Rattle.archex_app.specs.Team.{Team, searched_by}
 use Rattle.archex_app.specs.Mass.{IsSinkNamed}
 use Rattle.archex_app.specs.Search.{base_problem}
 use Rattle.archex_app.specs.Answer.{ShowsRefusal, RefusesArchitecture, RefusesSink, Prints, PrintsOver}
@@ -33,11 +34,12 @@ use Rattle.archex_app.specs.Weighed.{ShowsWeighing}
 use Rattle.archex_app.specs.CutsListed.{AreItsCuts, ShowsCuts}
 use Rattle.archex_app.specs.MassAnswer.{ShowsMass}
 use Rattle.archex_app.specs.Listed.{ShowsTemplate, ShowsRows}
-use Rattle.archex_app.specs.ComesTo.{CommandComesTo, ComesTo, EndsWith, OverLibrary, OverArchitecture, OverSink, WeighingComesTo, CutsComeTo, MassComesTo}
+use Rattle.archex_app.specs.ComesTo.{CommandComesTo, EndsWith, OverLibrary, OverArchitecture, OverSink, WeighingComesTo, CutsComeTo, MassComesTo}
 use Rattle.archex_app.specs.Files.{names_of}
 use Rattle.archex_app.specs.Run.{Seen, EndsAsDue, Runs}
 use Rattle.archex_app.proofs.Within.{same_ending, same_text, only_one, either_name}
-use Rattle.archex_app.proofs.AllRuns.{as_due, run_of_words}
+use Rattle.archex_app.proofs.AllRuns.{as_due}
+use Rattle.archex_app.proofs.TeamLaws.{its_run}
 use Rattle.archex_app.proofs.Coming.{OfSink}
 use Rattle.archex_app.proofs.OverFiles.{not_of, library_due, told_bytes, unread_library, refused_ending, job_of, comes_over, never_refuses, by_job, by_refusal, both_end, unless_no_memory}
 
@@ -190,19 +192,19 @@ never_so status name said l ending files text is ended w = elim w [
 refused_of_sink : (lib arch sink : List ℕ) (said : LibraryParts → ArchitectureParts → ℕ → List ℕ) (status : Status) (before now : Seen) → EndsAsDue (OverArchitecture before.told lib arch (OfSink sink said)) status before now → status ≡ status_of architecture_refused → Read lib arch before now
 refused_of_sink lib arch sink said status before now due is = by_refusal lib arch (OfSink sink said) status before now due is (λ l a ending files text ended w. never_so status sink (said l a) l ending files text is ended w)
 
-module _ (words : List (List ℕ)) (status : Status) (before now : Seen) (run : Runs (command_of words) status before now) where
+module _ (team : Team) (words : List (List ℕ)) (status : Status) (before now : Seen) (run : Runs (searched_by team (command_of words)) status before now) where
   pub refused_architecture : (lib arch : List ℕ) → AskOfArchitecture words lib arch → status ≡ status_of architecture_refused → Read lib arch before now
   refused_architecture lib arch ask is = elim ask [
     | inl asked ↦
-        let its : Its (weigh lib arch) status before now = run_of_words (command_of words) (weigh lib arch) status before now asked run in
+        let its : Its (weigh lib arch) status before now = its_run team (command_of words) status before now run (weigh lib arch) asked in
         by_refusal lib arch WeighingComesTo status before now (as_due _ status before now 9 its.goes.ended is (λ e. omega arith) (λ e. omega arith) (λ e. omega arith)) is
         (λ l a ending files text ended w. not_of status 9 ending done is ended (same_ending w.2) (λ e. omega arith))
     | inr w ↦ elim w.1 [
       | inl asked ↦
-          let its : Its (cuts lib arch w.0) status before now = run_of_words (command_of words) (cuts lib arch w.0) status before now asked run in
+          let its : Its (cuts lib arch w.0) status before now = its_run team (command_of words) status before now run (cuts lib arch w.0) asked in
           refused_of_sink lib arch w.0 cuts_text status before now (as_due _ status before now 9 its.goes.ended is (λ e. omega arith) (λ e. omega arith) (λ e. omega arith)) is
       | inr asked ↦
-          let its : Its (probability lib arch w.0) status before now = run_of_words (command_of words) (probability lib arch w.0) status before now asked run in
+          let its : Its (probability lib arch w.0) status before now = its_run team (command_of words) status before now run (probability lib arch w.0) asked in
           refused_of_sink lib arch w.0 (λ l a s. mass_text (enclosure_of l a s)) status before now (as_due _ status before now 9 its.goes.ended is (λ e. omega arith) (λ e. omega arith) (λ e. omega arith)) is
     ]
   ]
@@ -219,10 +221,10 @@ module _ (words : List (List ℕ)) (status : Status) (before now : Seen) (run : 
   pub refused_sink : (lib arch sink : List ℕ) → AskOfSink words lib arch sink → status ≡ status_of words_refused → PrintsOver (RefusesSink sink) (before.told lib) (before.told arch) before.printed now.printed
   refused_sink lib arch sink ask is = elim ask [
     | inl asked ↦
-        let its : Its (cuts lib arch sink) status before now = run_of_words (command_of words) (cuts lib arch sink) status before now asked run in
+        let its : Its (cuts lib arch sink) status before now = its_run team (command_of words) status before now run (cuts lib arch sink) asked in
         no_sink lib arch sink cuts_text (as_due _ status before now 4 its.goes.ended is (λ e. omega arith) (λ e. omega arith) (λ e. omega arith)) is
     | inr asked ↦
-        let its : Its (probability lib arch sink) status before now = run_of_words (command_of words) (probability lib arch sink) status before now asked run in
+        let its : Its (probability lib arch sink) status before now = its_run team (command_of words) status before now run (probability lib arch sink) asked in
         no_sink lib arch sink (λ l a s. mass_text (enclosure_of l a s)) (as_due _ status before now 4 its.goes.ended is (λ e. omega arith) (λ e. omega arith) (λ e. omega arith)) is
   ]
 
@@ -242,7 +244,7 @@ module _ (words : List (List ℕ)) (status : Status) (before now : Seen) (run : 
   pub weigh_completes : (lib arch lib_bytes arch_bytes : List ℕ) → command_of words ≡ Ok (weigh lib arch) → before.told lib ≡ Some lib_bytes → before.told arch ≡ Some arch_bytes → (Rose (before.reads lib) (now.reads lib) → ⊥) → (Rose (before.reads arch) (now.reads arch) → ⊥)
       → (Rose before.prints now.prints → ⊥) → UnlessNoMemory status (EndsOverArchitecture lib_bytes arch_bytes status)
   weigh_completes lib arch lib_bytes arch_bytes asked lib_tells arch_tells lib_calm arch_calm prints =
-      unless_no_memory (weigh lib arch) status before now (EndsOverArchitecture lib_bytes arch_bytes status) (run_of_words (command_of words) (weigh lib arch) status before now asked run) (two_calm lib arch lib_calm arch_calm) none_written prints
+      unless_no_memory (weigh lib arch) status before now (EndsOverArchitecture lib_bytes arch_bytes status) (its_run team (command_of words) status before now run (weigh lib arch) asked) (two_calm lib arch lib_calm arch_calm) none_written prints
       (λ due. both_end before.told lib arch lib_bytes arch_bytes WeighingComesTo (λ l a. status ≡ status_of done) status due.ending due.files due.text lib_tells arch_tells due.ended_so due.due (λ l a w. due.ended_so ∙ ap status_of (same_ending w.2)))
 
   -- how a command over a sink ends
@@ -258,10 +260,10 @@ module _ (words : List (List ℕ)) (status : Status) (before now : Seen) (run : 
       → (Rose before.prints now.prints → ⊥) → UnlessNoMemory status (EndsOverSink sink lib_bytes arch_bytes status)
   sink_completes lib arch sink lib_bytes arch_bytes ask lib_tells arch_tells lib_calm arch_calm prints = elim ask [
     | inl asked ↦
-        unless_no_memory (cuts lib arch sink) status before now (EndsOverSink sink lib_bytes arch_bytes status) (run_of_words (command_of words) (cuts lib arch sink) status before now asked run) (two_calm lib arch lib_calm arch_calm) none_written prints
+        unless_no_memory (cuts lib arch sink) status before now (EndsOverSink sink lib_bytes arch_bytes status) (its_run team (command_of words) status before now run (cuts lib arch sink) asked) (two_calm lib arch lib_calm arch_calm) none_written prints
         (of_sink_ends lib arch sink lib_bytes arch_bytes cuts_text lib_tells arch_tells)
     | inr asked ↦
-        unless_no_memory (probability lib arch sink) status before now (EndsOverSink sink lib_bytes arch_bytes status) (run_of_words (command_of words) (probability lib arch sink) status before now asked run) (two_calm lib arch lib_calm arch_calm) none_written prints
+        unless_no_memory (probability lib arch sink) status before now (EndsOverSink sink lib_bytes arch_bytes status) (its_run team (command_of words) status before now run (probability lib arch sink) asked) (two_calm lib arch lib_calm arch_calm) none_written prints
         (of_sink_ends lib arch sink lib_bytes arch_bytes (λ l a s. mass_text (enclosure_of l a s)) lib_tells arch_tells)
   ]
 
@@ -280,7 +282,7 @@ module _ (words : List (List ℕ)) (status : Status) (before now : Seen) (run : 
   pub list_completes : (lib bytes : List ℕ) → AskForList words lib → before.told lib ≡ Some bytes → (Rose (before.reads lib) (now.reads lib) → ⊥) → (Rose before.prints now.prints → ⊥) → UnlessNoMemory status (EndsOverLibrary bytes status)
   list_completes lib bytes ask tells calm prints = elim ask [
     | inl asked ↦
-        unless_no_memory (template lib) status before now (EndsOverLibrary bytes status) (run_of_words (command_of words) (template lib) status before now asked run) (one_calm lib calm) none_written prints (of_list_ends lib bytes template_text tells)
+        unless_no_memory (template lib) status before now (EndsOverLibrary bytes status) (its_run team (command_of words) status before now run (template lib) asked) (one_calm lib calm) none_written prints (of_list_ends lib bytes template_text tells)
     | inr asked ↦
-        unless_no_memory (rows lib) status before now (EndsOverLibrary bytes status) (run_of_words (command_of words) (rows lib) status before now asked run) (one_calm lib calm) none_written prints (of_list_ends lib bytes (λ l. rows_text (base_problem l)) tells)
+        unless_no_memory (rows lib) status before now (EndsOverLibrary bytes status) (its_run team (command_of words) status before now run (rows lib) asked) (one_calm lib calm) none_written prints (of_list_ends lib bytes (λ l. rows_text (base_problem l)) tells)
   ]

@@ -1,5 +1,5 @@
 -- What a run of `generate` says, from what is said of all runs.
-use Rattle.std.proofs.Common.{◌≡◌, ◌≢◌, ℕ, None, Some, List, [], ◌∷◌, ◌++◌, Ok, Option, IfSome, refl, sym, ap, subst, ◌∙◌, arith, inl, inr, ◌⊎◌}
+use Rattle.std.proofs.Common.{◌≡◌, ◌≢◌, ℕ, Some, List, [], ◌∷◌, Ok, IfSome, refl, sym, ap, subst, ◌∙◌, arith, inl, inr, ◌⊎◌}
 use Rattle.std.specs.Prelude.{Contains, Result, MatchResult}
 use Rattle.arch_model.specs.Parts.{LibraryParts}
 use Rattle.lib_read.specs.declared.fault.LibFault.{LibFault}
@@ -7,16 +7,15 @@ use Rattle.outside.specs.Faults.{Rose}
 use Rattle.outside.specs.Told.{Appends}
 use Rattle.generated.specs.GeneratedLibrary.{generated_library}
 use Rattle.search_core.specs.declared.limits.TheConstants.{BRANCHINGS}
-use Rattle.report.specs.Summary.{generated_text}
 use Rattle.archex_app.specs.declared.status.Status.{Status}
-use Rattle.archex_app.specs.Status.{Ending, status_of, ending_of, done, infeasible, node_limit, write_fault, no_memory}
+use Rattle.archex_app.specs.Status.{Ending, status_of, write_fault, no_memory}
 use Rattle.archex_app.specs.Due.{ends}
 use Rattle.archex_app.specs.Words.{GenerateWords, generate}
 use Rattle.archex_app.specs.Search.{search_log}
 use Rattle.archex_app.specs.Searched.{Answered, SomeSearch}
 use Rattle.archex_app.specs.Generated.{solving, made_text, ShowsGenerated, LeavesGenerated, CutsSummary}
 use Rattle.archex_app.specs.Complete.{Solves, CompletesGeneration}
-use Rattle.archex_app.specs.ComesTo.{ComesTo, GenerationComesTo, ALONE}
+use Rattle.archex_app.specs.ComesTo.{ComesTo, GenerationComesTo}
 use Rattle.archex_app.specs.Files.{names_of, IsWhole, IsFrontOf}
 use Rattle.archex_app.specs.Run.{Seen, EndsAsDue, FailsToWrite, FailsAtText, HoldsAll, HoldsUpTo, WantsMemory, Runs}
 use Rattle.archex_app.proofs.Within.{same_ending, same_files, same_text, either_name}
@@ -25,7 +24,7 @@ use Rattle.archex_app.proofs.Headline.{shows_answer_of, left_by, whole_front, so
 use Rattle.archex_app.proofs.OverFiles.{unless_no_memory}
 
 -- what it ends as is some search of the text of the number
-abbrev one_made : (ask : GenerateWords) (ending : Ending) (files : List (List ℕ × List ℕ)) (text : List ℕ) → GenerationComesTo ask (ends ending files text) → SomeSearch ALONE ALONE (solving ask) (Some (made_text ask))
+abbrev one_made : (ask : GenerateWords) (ending : Ending) (files : List (List ℕ × List ℕ)) (text : List ℕ) → GenerationComesTo ask (ends ending files text) → SomeSearch (solving ask) (Some (made_text ask))
 one_made ask ending files text w = record {
   bytes = made_text ask;
   told = refl;

@@ -1,5 +1,5 @@
 -- What a run of `solve` says, from what is said of all runs.
-use Rattle.std.proofs.Common.{◌≡◌, ◌≢◌, ℕ, ◌^◌, ◌<◌, ◌≤◌, true, false, Option, Some, None, List, [], ◌∷◌, ◌++◌, append-nil, Ok, Err, IsErr, Result, IfSome, refl, sym, ap, subst, ◌∙◌, arith, inl, inr, ◌⊎◌}
+use Rattle.std.proofs.Common.{◌≡◌, ◌≢◌, ℕ, ◌^◌, ◌<◌, ◌≤◌, Option, Some, None, List, [], ◌∷◌, ◌++◌, append-nil, Ok, Err, Result, IfSome, refl, sym, ap, subst, ◌∙◌, arith, inl, inr, ◌⊎◌}
 use Rattle.std.specs.Prelude.{MatchResult, Contains}
 use Rattle.arch_model.specs.Parts.{LibraryParts}
 use Rattle.arch_model.specs.Member.{member_count}
@@ -7,23 +7,23 @@ use Rattle.search_core.specs.declared.entry.Entry.{Entry}
 use Rattle.search_core.specs.declared.answer.Answer.{Answer}
 use Rattle.search_core.specs.declared.answer.Answer.TheVariants.{Optimal, Infeasible, NodeLimit}
 use Rattle.search_core.specs.State.{SearchState}
-use Rattle.outside.specs.Faults.{Rose, Stay}
+use Rattle.outside.specs.Faults.{Rose}
 use Rattle.outside.specs.Told.{Appends}
 use Rattle.lib_read.specs.LibraryOf.{library_of}
 use Rattle.lib_read.specs.declared.fault.LibFault.{LibFault}
 use Rattle.archex_app.specs.declared.status.Status.{Status}
-use Rattle.archex_app.specs.Status.{Ending, number_of, status_of, done, infeasible, node_limit, library_refused, words_refused, read_fault, write_fault, no_memory, ending_of}
-use Rattle.archex_app.specs.Due.{Due, ends, unread}
+use Rattle.archex_app.specs.Status.{Ending, number_of, status_of, done, infeasible, node_limit, library_refused, read_fault, write_fault, no_memory, ending_of}
+use Rattle.archex_app.specs.Due.{ends, unread}
 use Rattle.archex_app.specs.Words.{SolveWords, solve}
 use Rattle.report.specs.Refusal.{refused_library_text}
-use Rattle.archex_app.specs.Search.{base_problem, IsSearch, search_log}
+use Rattle.archex_app.specs.Search.{IsSearch, search_log}
 use Rattle.report.specs.Report.{search_report}
 use Rattle.archex_app.specs.Answer.{ShowsCheapest, ShowsInfeasible, ShowsNodeLimit, ShowsRefusal, ShowsReport, Prints, PrintsFront}
-use Rattle.archex_app.specs.Searched.{Answered, ShowsAnswer, ShowsSearch, SomeSearch, IsLogFront, LeavesLog, CutsText}
-use Rattle.archex_app.specs.ComesTo.{ComesTo, SearchComesTo, ALONE, EndsWith}
+use Rattle.archex_app.specs.Searched.{Answered, ShowsAnswer, ShowsSearch, SomeSearch, LeavesLog, CutsText}
+use Rattle.archex_app.specs.ComesTo.{ComesTo, SearchComesTo, EndsWith}
 use Rattle.archex_app.specs.Complete.{Solves, Completes}
 use Rattle.archex_app.specs.Files.{names_of, IsFrontOf}
-use Rattle.archex_app.specs.Run.{Seen, RoseAmong, PrintsFrontOf, EndsAsDue, FailsToRead, FailsAtFile, FailsAtText, FailsToWrite, HoldsAll, HoldsUpTo, WantsMemory, Runs}
+use Rattle.archex_app.specs.Run.{Seen, PrintsFrontOf, EndsAsDue, FailsToRead, FailsAtFile, FailsAtText, FailsToWrite, HoldsAll, HoldsUpTo, WantsMemory, Runs}
 use Rattle.archex_app.proofs.RunLaws.{apart}
 use Rattle.archex_app.proofs.SearchAnswers.{optimal_shows, infeasible_shows, limit_shows, some_admissible, none_admissible, least_best, best_admissible, limit_spent, complete_unless, cuts_hold}
 use Rattle.archex_app.proofs.PassingLogs.{search_passes}
@@ -37,7 +37,7 @@ record Found (ask : SolveWords) (bytes : List ℕ) (ending : Ending) (files : Li
   pub entries : List Entry
   pub state : SearchState
   pub answer : Answer
-  pub search : IsSearch lib ask.branchings ALONE ALONE entries state answer
+  pub search : IsSearch lib ask.branchings ask.workers ask.analysts entries state answer
   pub ending_is : ending ≡ ending_of answer
   pub files_are : files ≡ (ask.log, search_log lib ask.branchings entries state answer) ∷ []
   pub text_is : text ≡ search_report lib state answer
@@ -49,7 +49,7 @@ abbrev SolveShows : SolveWords → List ℕ → Ending → List (List ℕ × Lis
 SolveShows ask bytes ending files text = Found ask bytes ending files text ⊎ Refused bytes ending files text
 
 bytes_show : (ask : SolveWords) (bytes : List ℕ) (ending : Ending) (files : List (List ℕ × List ℕ)) (text : List ℕ) (answer : Result LibraryParts LibFault) → library_of bytes ≡ answer
-    → MatchResult answer (λ lib. SearchComesTo ask.log ask.branchings ALONE ALONE lib (ends ending files text)) (λ fault. EndsWith library_refused (refused_library_text fault) (ends ending files text)) → SolveShows ask bytes ending files text
+    → MatchResult answer (λ lib. SearchComesTo ask.log ask.branchings ask.workers ask.analysts lib (ends ending files text)) (λ fault. EndsWith library_refused (refused_library_text fault) (ends ending files text)) → SolveShows ask bytes ending files text
 bytes_show ask bytes ending files text (Ok lib) read job = inl (record {
   lib = lib;
   read = read;
@@ -74,25 +74,25 @@ solve_reads : (told : List ℕ → Option (List ℕ)) (ask : SolveWords) (n : Li
 solve_reads told ask n comes = only_one ask.lib n (words_read told (Ok (solve ask)) n comes)
 
 -- what a search shows, by its answer
-cheapest_if : (ask : SolveWords) (bytes text : List ℕ) (lib : LibraryParts) (entries : List Entry) (state : SearchState) (answer : Answer) → library_of bytes ≡ Ok lib → IsSearch lib ask.branchings ALONE ALONE entries state answer → text ≡ search_report lib state answer
+cheapest_if : (ask : SolveWords) (bytes text : List ℕ) (lib : LibraryParts) (entries : List Entry) (state : SearchState) (answer : Answer) → library_of bytes ≡ Ok lib → IsSearch lib ask.branchings ask.workers ask.analysts entries state answer → text ≡ search_report lib state answer
     → number_of (ending_of answer) ≡ 0 → ShowsCheapest bytes text
-cheapest_if ask bytes text lib entries state (Optimal cost) read is text_is zero_is = subst (λ (t : List ℕ). ShowsCheapest bytes t) (sym text_is) (optimal_shows lib ask.branchings ALONE ALONE entries state cost bytes read is)
+cheapest_if ask bytes text lib entries state (Optimal cost) read is text_is zero_is = subst (λ (t : List ℕ). ShowsCheapest bytes t) (sym text_is) (optimal_shows lib ask.branchings ask.workers ask.analysts entries state cost bytes read is)
 cheapest_if ask bytes text lib entries state Infeasible read is text_is zero_is = absurd (omega arith)
 cheapest_if ask bytes text lib entries state (NodeLimit incumbent) read is text_is zero_is = absurd (omega arith)
 
-none_if : (ask : SolveWords) (bytes text : List ℕ) (lib : LibraryParts) (entries : List Entry) (state : SearchState) (answer : Answer) → library_of bytes ≡ Ok lib → IsSearch lib ask.branchings ALONE ALONE entries state answer → text ≡ search_report lib state answer
+none_if : (ask : SolveWords) (bytes text : List ℕ) (lib : LibraryParts) (entries : List Entry) (state : SearchState) (answer : Answer) → library_of bytes ≡ Ok lib → IsSearch lib ask.branchings ask.workers ask.analysts entries state answer → text ≡ search_report lib state answer
     → number_of (ending_of answer) ≡ 1 → ShowsInfeasible bytes text
 none_if ask bytes text lib entries state (Optimal cost) read is text_is one_is = absurd (omega arith)
-none_if ask bytes text lib entries state Infeasible read is text_is one_is = subst (λ (t : List ℕ). ShowsInfeasible bytes t) (sym text_is) (infeasible_shows lib ask.branchings ALONE ALONE entries state bytes read is)
+none_if ask bytes text lib entries state Infeasible read is text_is one_is = subst (λ (t : List ℕ). ShowsInfeasible bytes t) (sym text_is) (infeasible_shows lib ask.branchings ask.workers ask.analysts entries state bytes read is)
 none_if ask bytes text lib entries state (NodeLimit incumbent) read is text_is one_is = absurd (omega arith)
 
-limit_if : (ask : SolveWords) (bytes text : List ℕ) (lib : LibraryParts) (entries : List Entry) (state : SearchState) (answer : Answer) → library_of bytes ≡ Ok lib → IsSearch lib ask.branchings ALONE ALONE entries state answer → text ≡ search_report lib state answer
+limit_if : (ask : SolveWords) (bytes text : List ℕ) (lib : LibraryParts) (entries : List Entry) (state : SearchState) (answer : Answer) → library_of bytes ≡ Ok lib → IsSearch lib ask.branchings ask.workers ask.analysts entries state answer → text ≡ search_report lib state answer
     → number_of (ending_of answer) ≡ 2 → ShowsNodeLimit ask.branchings bytes text
 limit_if ask bytes text lib entries state (Optimal cost) read is text_is two_is = absurd (omega arith)
 limit_if ask bytes text lib entries state Infeasible read is text_is two_is = absurd (omega arith)
-limit_if ask bytes text lib entries state (NodeLimit incumbent) read is text_is two_is = subst (λ (t : List ℕ). ShowsNodeLimit ask.branchings bytes t) (sym text_is) (limit_shows lib ask.branchings ALONE ALONE entries state incumbent bytes read is)
+limit_if ask bytes text lib entries state (NodeLimit incumbent) read is text_is two_is = subst (λ (t : List ℕ). ShowsNodeLimit ask.branchings bytes t) (sym text_is) (limit_shows lib ask.branchings ask.workers ask.analysts entries state incumbent bytes read is)
 
-answer_if : (ask : SolveWords) (bytes text : List ℕ) (lib : LibraryParts) (entries : List Entry) (state : SearchState) (answer : Answer) → library_of bytes ≡ Ok lib → IsSearch lib ask.branchings ALONE ALONE entries state answer → text ≡ search_report lib state answer
+answer_if : (ask : SolveWords) (bytes text : List ℕ) (lib : LibraryParts) (entries : List Entry) (state : SearchState) (answer : Answer) → library_of bytes ≡ Ok lib → IsSearch lib ask.branchings ask.workers ask.analysts entries state answer → text ≡ search_report lib state answer
     → ShowsReport ask.branchings bytes text
 answer_if ask bytes text lib entries state (Optimal cost) read is text_is = inl (cheapest_if ask bytes text lib entries state (Optimal cost) read is text_is refl)
 answer_if ask bytes text lib entries state Infeasible read is text_is = inr (inl (none_if ask bytes text lib entries state Infeasible read is text_is refl))
@@ -152,7 +152,7 @@ only_file name text files before now is holds =
     one.whole 0 (name, text) (omega arith)
 
 -- what was found is some search
-abbrev one_search : (ask : SolveWords) (told : Option (List ℕ)) (bytes text : List ℕ) (ending : Ending) (files : List (List ℕ × List ℕ)) → IfSome told (λ all. bytes ≡ all) → Found ask bytes ending files text → SomeSearch ALONE ALONE ask told
+abbrev one_search : (ask : SolveWords) (told : Option (List ℕ)) (bytes text : List ℕ) (ending : Ending) (files : List (List ℕ × List ℕ)) → IfSome told (λ all. bytes ≡ all) → Found ask bytes ending files text → SomeSearch ask told
 one_search ask told bytes text ending files reads w = record {
   bytes = bytes;
   told = reads;
@@ -165,21 +165,21 @@ one_search ask told bytes text ending files reads w = record {
 }
 
 -- what a search shows of its library
-abbrev pub shows_answer_of : (ask : SolveWords) (lib_told : Option (List ℕ)) (one : SomeSearch ALONE ALONE ask lib_told) → ShowsAnswer ALONE ALONE one.lib ask.branchings one.entries one.state one.answer
+abbrev pub shows_answer_of : (ask : SolveWords) (lib_told : Option (List ℕ)) (one : SomeSearch ask lib_told) → ShowsAnswer ask.workers ask.analysts one.lib ask.branchings one.entries one.state one.answer
 shows_answer_of ask lib_told one = record {
   search = one.search;
-  optimal = λ cost is. least_best one.lib ask.branchings ALONE ALONE one.entries one.state cost (subst (λ (a : Answer). IsSearch one.lib ask.branchings ALONE ALONE one.entries one.state a) is one.search);
-  none_meets = λ is. none_admissible one.lib ask.branchings ALONE ALONE one.entries one.state (subst (λ (a : Answer). IsSearch one.lib ask.branchings ALONE ALONE one.entries one.state a) is one.search);
-  at_limit = λ incumbent is. limit_spent one.lib ask.branchings ALONE ALONE one.entries one.state incumbent (subst (λ (a : Answer). IsSearch one.lib ask.branchings ALONE ALONE one.entries one.state a) is one.search);
-  complete = complete_unless one.lib ask.branchings ALONE ALONE one.entries one.state one.answer one.search;
-  best = best_admissible one.lib ask.branchings ALONE ALONE one.entries one.state one.answer one.search;
-  passes = search_passes one.bytes one.lib ask.branchings ALONE ALONE one.entries one.state one.answer one.read one.search;
-  cuts_hold = cuts_hold one.lib ask.branchings ALONE ALONE one.entries one.state one.answer one.search;
+  optimal = λ cost is. least_best one.lib ask.branchings ask.workers ask.analysts one.entries one.state cost (subst (λ (a : Answer). IsSearch one.lib ask.branchings ask.workers ask.analysts one.entries one.state a) is one.search);
+  none_meets = λ is. none_admissible one.lib ask.branchings ask.workers ask.analysts one.entries one.state (subst (λ (a : Answer). IsSearch one.lib ask.branchings ask.workers ask.analysts one.entries one.state a) is one.search);
+  at_limit = λ incumbent is. limit_spent one.lib ask.branchings ask.workers ask.analysts one.entries one.state incumbent (subst (λ (a : Answer). IsSearch one.lib ask.branchings ask.workers ask.analysts one.entries one.state a) is one.search);
+  complete = complete_unless one.lib ask.branchings ask.workers ask.analysts one.entries one.state one.answer one.search;
+  best = best_admissible one.lib ask.branchings ask.workers ask.analysts one.entries one.state one.answer one.search;
+  passes = search_passes one.bytes one.lib ask.branchings ask.workers ask.analysts one.entries one.state one.answer one.read one.search;
+  cuts_hold = cuts_hold one.lib ask.branchings ask.workers ask.analysts one.entries one.state one.answer one.search;
 }
 
 -- and where its report was printed and its log was written
-shows_search : (ask : SolveWords) (status : Status) (lib_told log_told before now : Option (List ℕ)) (one : SomeSearch ALONE ALONE ask lib_told) → status ≡ status_of (ending_of one.answer) → Appends before now (search_report one.lib one.state one.answer)
-    → IfSome log_told (λ log. log ≡ search_log one.lib ask.branchings one.entries one.state one.answer) → ShowsSearch ALONE ALONE ask status lib_told log_told before now
+shows_search : (ask : SolveWords) (status : Status) (lib_told log_told before now : Option (List ℕ)) (one : SomeSearch ask lib_told) → status ≡ status_of (ending_of one.answer) → Appends before now (search_report one.lib one.state one.answer)
+    → IfSome log_told (λ log. log ≡ search_log one.lib ask.branchings one.entries one.state one.answer) → ShowsSearch ask status lib_told log_told before now
 shows_search ask status lib_told log_told before now one ended printed log = record {
   bytes = one.bytes;
   told = one.told;
@@ -195,13 +195,13 @@ shows_search ask status lib_told log_told before now one ended printed log = rec
 }
 
 searched_from : (ask : SolveWords) (status : Status) (before now : Seen) (due : Came ask status before now) (bytes : List ℕ) → IfSome (before.told ask.lib) (λ all. bytes ≡ all) → Found ask bytes due.ending due.files due.text
-    → ShowsSearch ALONE ALONE ask status (before.told ask.lib) (now.told ask.log) before.printed now.printed
+    → ShowsSearch ask status (before.told ask.lib) (now.told ask.log) before.printed now.printed
 searched_from ask status before now due bytes told w =
     shows_search ask status (before.told ask.lib) (now.told ask.log) before.printed now.printed (one_search ask (before.told ask.lib) bytes due.text due.ending due.files told w) (due.ended_so ∙ ap status_of w.ending_is)
     (subst (λ (t : List ℕ). Appends before.printed now.printed t) w.text_is due.printed)
     (only_file ask.log (search_log w.lib ask.branchings w.entries w.state w.answer) due.files before now w.files_are due.holds)
 
-searched_as : (n : ℕ) (ask : SolveWords) (status : Status) (before now : Seen) → Solving ask status before now → status ≡ record { 0 = n } → n ≢ 3 → n ≢ 5 → n ≢ 6 → n ≢ 7 → ShowsSearch ALONE ALONE ask status (before.told ask.lib) (now.told ask.log) before.printed now.printed
+searched_as : (n : ℕ) (ask : SolveWords) (status : Status) (before now : Seen) → Solving ask status before now → status ≡ record { 0 = n } → n ≢ 3 → n ≢ 5 → n ≢ 6 → n ≢ 7 → ShowsSearch ask status (before.told ask.lib) (now.told ask.log) before.printed now.printed
 searched_as n ask status before now run is three five six seven =
     let due : Came ask status before now = as_due _ status before now n run.goes.ended is five six seven in
     let found = solve_shows before.told ask due.ending due.files due.text due.due in
@@ -210,7 +210,7 @@ searched_as n ask status before now run is three five six seven =
       | inr w ↦ absurd (not_refused n status found.0 due.text due.ending due.files is due.ended_so three w)
     ]
 
-pub searched : (ask : SolveWords) (status : Status) (before now : Seen) → Solving ask status before now → Answered status → ShowsSearch ALONE ALONE ask status (before.told ask.lib) (now.told ask.log) before.printed now.printed
+pub searched : (ask : SolveWords) (status : Status) (before now : Seen) → Solving ask status before now → Answered status → ShowsSearch ask status (before.told ask.lib) (now.told ask.log) before.printed now.printed
 searched ask status before now run answered = elim answered [
   | inl is ↦ searched_as 0 ask status before now run is (λ e. omega arith) (λ e. omega arith) (λ e. omega arith) (λ e. omega arith)
   | inr more ↦ elim more [
@@ -245,13 +245,13 @@ cut_short ask status before now run is =
     record { bytes = found.0; told = found.1; front = part.0; rest = part.1; shows = subst P part.2 (shows_answer ask found.0 w.ending w.files w.text found.2); printed = part.3 }
 
 -- what is left under the log's name by a run that stopped before its end
-pub left_by : (ask : SolveWords) (told log_before log_now : Option (List ℕ)) (one : SomeSearch ALONE ALONE ask told) → (log_now ≡ log_before) ⊎ IfSome log_now (λ front. (rest : List ℕ) × (search_log one.lib ask.branchings one.entries one.state one.answer ≡ front ++ rest))
-    → LeavesLog ALONE ALONE ask told log_before log_now
+pub left_by : (ask : SolveWords) (told log_before log_now : Option (List ℕ)) (one : SomeSearch ask told) → (log_now ≡ log_before) ⊎ IfSome log_now (λ front. (rest : List ℕ) × (search_log one.lib ask.branchings one.entries one.state one.answer ≡ front ++ rest))
+    → LeavesLog ask told log_before log_now
 left_by ask told log_before None one left = inr tt
 left_by ask told log_before (Some front) one left = elim left [ inl same ↦ inl same | inr part ↦ inr (record { one = one; rest = part.0; log = part.1 }) ]
 
 front_at : (ask : SolveWords) (told log_before log_now : Option (List ℕ)) (bytes text : List ℕ) (ending : Ending) (files : List (List ℕ × List ℕ)) → IfSome told (λ all. bytes ≡ all) → (w : Found ask bytes ending files text)
-    → (log_now ≡ log_before) ⊎ IfSome log_now (λ front. (rest : List ℕ) × (search_log w.lib ask.branchings w.entries w.state w.answer ≡ front ++ rest)) → LeavesLog ALONE ALONE ask told log_before log_now
+    → (log_now ≡ log_before) ⊎ IfSome log_now (λ front. (rest : List ℕ) × (search_log w.lib ask.branchings w.entries w.state w.answer ≡ front ++ rest)) → LeavesLog ask told log_before log_now
 front_at ask told log_before log_now bytes text ending files reads w left = left_by ask told log_before log_now (one_search ask told bytes text ending files reads w) left
 
 front_of_one : (name text : List ℕ) (files : List (List ℕ × List ℕ)) (at : List ℕ) (before now : Seen) → files ≡ (name, text) ∷ [] → HoldsUpTo at files before now → IsFrontOf (before.told name) (now.told name) text
@@ -283,19 +283,19 @@ log_stays ask status before now run is = elim is [
   | inr five ↦ let read : FailsToRead (ComesTo before.told (Ok (solve ask))) status before now = as_read _ status before now run.goes.ended five in read.kept ask.log
 ]
 
-left_by_cut : (ask : SolveWords) (before now : Seen) (ending : Ending) (files : List (List ℕ × List ℕ)) (text : List ℕ) → Shown before.told ask ending files text → (at : List ℕ) → HoldsUpTo at files before now → LeavesLog ALONE ALONE ask (before.told ask.lib) (before.told ask.log) (now.told ask.log)
+left_by_cut : (ask : SolveWords) (before now : Seen) (ending : Ending) (files : List (List ℕ × List ℕ)) (text : List ℕ) → Shown before.told ask ending files text → (at : List ℕ) → HoldsUpTo at files before now → LeavesLog ask (before.told ask.lib) (before.told ask.log) (now.told ask.log)
 left_by_cut ask before now ending files text found at holds = elim found.2 [
   | inl w ↦ front_at ask (before.told ask.lib) (before.told ask.log) (now.told ask.log) found.0 text ending files found.1 w (front_of_one ask.log (search_log w.lib ask.branchings w.entries w.state w.answer) files at before now w.files_are holds)
   | inr w ↦ inl (holds.others ask.log (λ has. nothing_in files ask.log w.2 has))
 ]
 
-left_by_all : (ask : SolveWords) (before now : Seen) (ending : Ending) (files : List (List ℕ × List ℕ)) (text : List ℕ) → Shown before.told ask ending files text → HoldsAll files before now → LeavesLog ALONE ALONE ask (before.told ask.lib) (before.told ask.log) (now.told ask.log)
+left_by_all : (ask : SolveWords) (before now : Seen) (ending : Ending) (files : List (List ℕ × List ℕ)) (text : List ℕ) → Shown before.told ask ending files text → HoldsAll files before now → LeavesLog ask (before.told ask.lib) (before.told ask.log) (now.told ask.log)
 left_by_all ask before now ending files text found holds = elim found.2 [
   | inl w ↦ front_at ask (before.told ask.lib) (before.told ask.log) (now.told ask.log) found.0 text ending files found.1 w (inr (whole_front (now.told ask.log) (search_log w.lib ask.branchings w.entries w.state w.answer) (only_file ask.log (search_log w.lib ask.branchings w.entries w.state w.answer) files before now w.files_are holds)))
   | inr w ↦ inl (holds.others ask.log (λ has. nothing_in files ask.log w.2 has))
 ]
 
-left_by_write : (ask : SolveWords) (status : Status) (before now : Seen) → FailsToWrite (ComesTo before.told (Ok (solve ask))) status before now → LeavesLog ALONE ALONE ask (before.told ask.lib) (before.told ask.log) (now.told ask.log)
+left_by_write : (ask : SolveWords) (status : Status) (before now : Seen) → FailsToWrite (ComesTo before.told (Ok (solve ask))) status before now → LeavesLog ask (before.told ask.lib) (before.told ask.log) (now.told ask.log)
 left_by_write ask status before now w =
     let found = solve_shows before.told ask w.ending w.files w.text w.due in
     elim w.cause [
@@ -303,10 +303,10 @@ left_by_write ask status before now w =
       | inr at_text ↦ left_by_all ask before now w.ending w.files w.text found at_text.holds
     ]
 
-left_by_memory : (ask : SolveWords) (status : Status) (before now : Seen) → WantsMemory (ComesTo before.told (Ok (solve ask))) status before now → LeavesLog ALONE ALONE ask (before.told ask.lib) (before.told ask.log) (now.told ask.log)
+left_by_memory : (ask : SolveWords) (status : Status) (before now : Seen) → WantsMemory (ComesTo before.told (Ok (solve ask))) status before now → LeavesLog ask (before.told ask.lib) (before.told ask.log) (now.told ask.log)
 left_by_memory ask status before now w = elim w.holds [ inl same ↦ inl (same ask.log) | inr part ↦ left_by_cut ask before now part.0 part.1 part.2 (solve_shows before.told ask part.0 part.1 part.2 part.3) part.4 part.5 ]
 
-pub leaves_log : (ask : SolveWords) (status : Status) (before now : Seen) → Solving ask status before now → (status ≡ status_of write_fault) ⊎ (status ≡ status_of no_memory) → LeavesLog ALONE ALONE ask (before.told ask.lib) (before.told ask.log) (now.told ask.log)
+pub leaves_log : (ask : SolveWords) (status : Status) (before now : Seen) → Solving ask status before now → (status ≡ status_of write_fault) ⊎ (status ≡ status_of no_memory) → LeavesLog ask (before.told ask.lib) (before.told ask.log) (now.told ask.log)
 leaves_log ask status before now run is = elim is [
   | inl six ↦ left_by_write ask status before now (as_write _ status before now run.goes.ended six)
   | inr seven ↦ left_by_memory ask status before now (as_memory _ status before now run.goes.ended seven)
@@ -327,7 +327,7 @@ log_named ask bytes ending files text shows name due =
 
 -- where the log could be written and the text not, the log stands whole
 cut_at : (ask : SolveWords) (before now : Seen) (ending : Ending) (files : List (List ℕ × List ℕ)) (text : List ℕ) → Shown before.told ask ending files text → FailsAtText files text before now
-    → CutsText ALONE ALONE ask (before.told ask.lib) (before.told ask.log) (now.told ask.log) before.printed now.printed
+    → CutsText ask (before.told ask.lib) (before.told ask.log) (now.told ask.log) before.printed now.printed
 cut_at ask before now ending files text found at = elim found.2 [
   | inl w ↦ inl (record {
     one = one_search ask (before.told ask.lib) found.0 text ending files found.1 w;
@@ -346,7 +346,7 @@ cut_at ask before now ending files text found at = elim found.2 [
 ]
 
 pub logged : (ask : SolveWords) (status : Status) (before now : Seen) → Solving ask status before now → status ≡ status_of write_fault → (Rose (before.writes ask.log) (now.writes ask.log) → ⊥)
-    → CutsText ALONE ALONE ask (before.told ask.lib) (before.told ask.log) (now.told ask.log) before.printed now.printed
+    → CutsText ask (before.told ask.lib) (before.told ask.log) (now.told ask.log) before.printed now.printed
 logged ask status before now run is calm =
     let w : FailsToWrite (ComesTo before.told (Ok (solve ask))) status before now = as_write _ status before now run.goes.ended is in
     let found = solve_shows before.told ask w.ending w.files w.text w.due in
@@ -373,25 +373,25 @@ without_memory limit (Err fault) status is = inr is
 too_short : (limit far : ℕ) → limit < far → far ≤ limit → ⊥
 too_short limit far short enough = omega arith
 
-pub solves : (ask : SolveWords) (bytes : List ℕ) (lib : LibraryParts) (entries : List Entry) (state : SearchState) (answer : Answer) (status : Status) → library_of bytes ≡ Ok lib → IsSearch lib ask.branchings ALONE ALONE entries state answer → status ≡ status_of (ending_of answer)
+pub solves : (ask : SolveWords) (bytes : List ℕ) (lib : LibraryParts) (entries : List Entry) (state : SearchState) (answer : Answer) (status : Status) → library_of bytes ≡ Ok lib → IsSearch lib ask.branchings ask.workers ask.analysts entries state answer → status ≡ status_of (ending_of answer)
     → Solves lib ask.branchings status
 solves ask bytes lib entries state (Optimal cost) status read is ended = record {
   ends = inl ended;
-  one_meets = λ e. some_admissible lib ask.branchings ALONE ALONE entries state cost is;
+  one_meets = λ e. some_admissible lib ask.branchings ask.workers ask.analysts entries state cost is;
   none_meets = λ e. absurd (apart status 0 1 ended e (λ t. omega arith));
   enough = λ far e. absurd (apart status 0 2 ended e (λ t. omega arith));
 }
 solves ask bytes lib entries state Infeasible status read is ended = record {
   ends = inr (inl ended);
   one_meets = λ e. absurd (apart status 1 0 ended e (λ t. omega arith));
-  none_meets = λ e. none_admissible lib ask.branchings ALONE ALONE entries state is;
+  none_meets = λ e. none_admissible lib ask.branchings ask.workers ask.analysts entries state is;
   enough = λ far e. absurd (apart status 1 2 ended e (λ t. omega arith));
 }
 solves ask bytes lib entries state (NodeLimit incumbent) status read is ended = record {
   ends = inr (inr (inl ended));
   one_meets = λ e. absurd (apart status 2 0 ended e (λ t. omega arith));
   none_meets = λ e. absurd (apart status 2 1 ended e (λ t. omega arith));
-  enough = λ far e. too_short ask.branchings (2 ^ member_count lib) (limit_spent lib ask.branchings ALONE ALONE entries state incumbent is).short far;
+  enough = λ far e. too_short ask.branchings (2 ^ member_count lib) (limit_spent lib ask.branchings ask.workers ask.analysts entries state incumbent is).short far;
 }
 
 shown_completes : (ask : SolveWords) (bytes : List ℕ) (ending : Ending) (files : List (List ℕ × List ℕ)) (text : List ℕ) (status : Status) → status ≡ status_of ending → SolveShows ask bytes ending files text → Completes ask.branchings bytes status

@@ -12,6 +12,7 @@ pub mod RunLaws
 pub mod SinkLaws
 pub mod Coming
 pub mod AllRuns
+pub mod TeamLaws
 pub mod Headline
 pub mod LogReading
 pub mod CheckRuns

@@ -1,7 +1,7 @@
 -- A log that is read in pieces and judged as it is read.
-use Rattle.std.proofs.Common.{◌≡◌, ℕ, zero, suc, ◌+◌, ◌-◌, ◌≤◌, ◌<◌, Option, Some, None, List, [], ◌++◌, take, drop, length, Result, Ok, Err, IfSome, IfOk, IfErr, refl, sym, ap, subst, ◌∙◌, arith, inl, inr}
-use Rattle.std.proofs.lemmas.List.{take_all, length-take-le, length-append, take-append-drop, append-nil}
-use Rattle.outside.specs.Faults.{Rose, Stay, ChangesOnly}
+use Rattle.std.proofs.Common.{◌≡◌, ℕ, zero, suc, ◌+◌, ◌-◌, ◌≤◌, ◌<◌, Option, Some, None, List, [], ◌++◌, take, drop, length, IfSome, refl, sym, ap, subst, ◌∙◌, arith, inl, inr}
+use Rattle.std.proofs.lemmas.List.{take_all, length-take-le, length-append, take-append-drop}
+use Rattle.outside.specs.Faults.{Rose, Stay}
 use Rattle.outside.specs.Told.{Finds}
 use Rattle.rows.specs.Parts.{ProblemParts}
 use Rattle.search_core.specs.declared.answer.Answer.{Answer}

@@ -19,10 +19,9 @@ use Rattle.archex_app.specs.declared.status.Status.{Status}
 use Rattle.archex_app.specs.Status.{Ending, number_of, status_of, ending_of, done, infeasible, node_limit, library_refused, words_refused, log_refused, no_memory, architecture_refused}
 use Rattle.archex_app.specs.Due.{Due, ends, unread}
 use Rattle.archex_app.specs.Words.{Asked, solve, check, weigh, cuts, probability, template, rows, generate, files_read, files_written}
-use Rattle.archex_app.specs.Mass.{IsSinkNamed}
 use Rattle.archex_app.specs.Search.{base_problem}
-use Rattle.archex_app.specs.Answer.{ShowsRefusal, RefusesArchitecture, Prints, PrintsOver}
-use Rattle.archex_app.specs.ComesTo.{ALONE, CommandComesTo, EndsWith, Reads, ReadsAs, OverLibrary, OverArchitecture, OverSink, SearchComesTo, VerdictComesTo, WeighingComesTo, CutsComeTo, MassComesTo}
+use Rattle.archex_app.specs.Answer.{ShowsRefusal, RefusesArchitecture, PrintsOver}
+use Rattle.archex_app.specs.ComesTo.{CommandComesTo, EndsWith, Reads, ReadsAs, OverLibrary, OverArchitecture, OverSink, SearchComesTo, VerdictComesTo, WeighingComesTo, CutsComeTo, MassComesTo}
 use Rattle.archex_app.specs.Run.{Seen, EndsAsDue, Runs}
 use Rattle.archex_app.proofs.RunLaws.{apart}
 use Rattle.archex_app.proofs.Within.{same_ending, same_files, same_text, same_name, no_read}
@@ -72,7 +71,7 @@ module _ (told : List ℕ → Option (List ℕ)) (lib bytes : List ℕ) (fault :
 
 -- the job of a command over its library
 abbrev pub job_of : (List ℕ → Option (List ℕ)) → Asked → LibraryParts → Due → Type 0
-job_of told (solve ask) lib due = SearchComesTo ask.log ask.branchings ALONE ALONE lib due
+job_of told (solve ask) lib due = SearchComesTo ask.log ask.branchings ask.workers ask.analysts lib due
 job_of told (check lib log) l due = Reads told log (VerdictComesTo l) due
 job_of told (weigh lib arch) l due = ReadsAs (architecture_of_bytes l) architecture_refused refused_architecture_text told arch (WeighingComesTo l) due
 job_of told (cuts lib arch sink) l due = ReadsAs (architecture_of_bytes l) architecture_refused refused_architecture_text told arch (CutsComeTo sink l) due

@@ -21,7 +21,7 @@ use Rattle.search_core.specs.declared.answer.Answer.{Answer}
 use Rattle.search_core.specs.declared.answer.Answer.TheVariants.{Optimal, Infeasible, NodeLimit}
 use Rattle.search_core.specs.State.{SearchState, start_of}
 use Rattle.search_core.specs.Candidate.{candidate_of}
-use Rattle.search_core.specs.Step.{IsStudied, Step, Publishes}
+use Rattle.search_core.specs.Step.{Step, Publishes}
 use Rattle.search_core.specs.History.{Steps, Reaches, IsComplete, is_at_rest, is_branch, is_reopen}
 use Rattle.search_core.specs.Answers.{answer_by}
 use Rattle.search_core.specs.Invariant.{SearchInvariant, IsAdmissibleBest, HoldsInAll}

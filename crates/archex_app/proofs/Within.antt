@@ -22,7 +22,7 @@ use Rattle.report.specs.Verdict.{yes_text, no_text}
 use Rattle.archex_app.specs.Mass.{IsSinkNamed}
 use Rattle.report.specs.Mass.{mass_text}
 use Rattle.archex_app.specs.Endings.{endings_of}
-use Rattle.archex_app.specs.ComesTo.{ComesTo, CommandComesTo, EndsWith, Reads, ReadsAs, OverLibrary, OverArchitecture, OverSink, SearchComesTo, ALONE, VerdictComesTo, WeighingComesTo, GenerationComesTo}
+use Rattle.archex_app.specs.ComesTo.{ComesTo, CommandComesTo, EndsWith, Reads, ReadsAs, OverLibrary, OverArchitecture, OverSink, SearchComesTo, VerdictComesTo, WeighingComesTo, GenerationComesTo}
 use Rattle.archex_app.specs.Search.{base_problem}
 use Rattle.archex_app.specs.Files.{names_of}
 
@@ -190,8 +190,8 @@ generation_within ask = record {
 
 pub command_within : (told : List ℕ → Option (List ℕ)) (asked : Asked) → Its told asked
 command_within told (solve ask) =
-    reads_as_within library_of library_refused refused_library_text told ask.lib (SearchComesTo ask.log ask.branchings ALONE ALONE) _ _ _ (at_0 ask.lib []) (at_3 done infeasible node_limit library_refused [])
-    (λ l. search_within ask.log ask.branchings ALONE ALONE l (ask.lib ∷ []))
+    reads_as_within library_of library_refused refused_library_text told ask.lib (SearchComesTo ask.log ask.branchings ask.workers ask.analysts) _ _ _ (at_0 ask.lib []) (at_3 done infeasible node_limit library_refused [])
+    (λ l. search_within ask.log ask.branchings ask.workers ask.analysts l (ask.lib ∷ []))
 command_within told (check lib log) =
     reads_as_within library_of library_refused refused_library_text told lib (λ l. Reads told log (VerdictComesTo l)) _ _ _ (at_0 lib (log ∷ [])) (at_1 done library_refused (log_refused ∷ []))
     (λ l. reads_within told log (VerdictComesTo l) _ _ _ (at_1 lib log []) (λ bytes. verdict_within l bytes _ _))

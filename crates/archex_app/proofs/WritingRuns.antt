@@ -1,5 +1,5 @@
 -- From what came of a job and what was written to a run, for a command that writes files before it prints.
-use Rattle.std.proofs.Common.{◌≡◌, ◌≢◌, ℕ, ◌≤◌, Option, List, [], ◌∷◌, ◌++◌, IfSome, refl, sym, ap, subst, ◌∙◌, arith, inl, inr, ◌⊎◌}
+use Rattle.std.proofs.Common.{◌≡◌, ◌≢◌, ℕ, ◌≤◌, Option, List, [], ◌∷◌, IfSome, refl, sym, subst, ◌∙◌, arith, inl, inr}
 use Rattle.std.specs.Prelude.{Contains, Result, Ok, Err, OnOk, OnErr, IsErrOf}
 use Rattle.std.specs.List.{All}
 use Rattle.std.specs.Cow.{cow_slice_items}
@@ -9,7 +9,7 @@ use Rattle.archex_app.specs.declared.status.Status.{Status}
 use Rattle.archex_app.specs.declared.outcome.Outcome.{Outcome}
 use Rattle.archex_app.specs.declared.writing.WriteError.{WriteError}
 use Rattle.archex_app.specs.declared.writing.WriteError.TheVariants.{Memory, Failed}
-use Rattle.archex_app.specs.Status.{Ending, status_of, write_fault, no_memory}
+use Rattle.archex_app.specs.Status.{Ending, status_of}
 use Rattle.archex_app.specs.Due.{Due, ends, IsSettled}
 use Rattle.archex_app.specs.Files.{names_of, IsWhole, IsFrontOf}
 use Rattle.archex_app.specs.Run.{Seen, OthersKeep, IsRun}

@@ -54,7 +54,7 @@ OverSink lib name place Job due =
     ((sink : ℕ) × IsSinkNamed lib name sink × Job sink due)
     ⊎ (((sink : ℕ) → IsSinkNamed lib name sink → ⊥) × EndsWith words_refused (refused_words_text place) due)
 
--- how many workers there are, and how many analysts, where one worker searches
+-- how many workers there are, and how many analysts, where one worker searches: so it is with `generate`
 abbrev pub ALONE : ℕ
 ALONE = 1
 
@@ -93,7 +93,7 @@ MassComesTo sink lib arch due = OverSink lib sink 4 (λ s. EndsWith done (mass_t
 
 -- what a command comes to
 abbrev pub CommandComesTo : (List ℕ → Option (List ℕ)) → Asked → Due → Type 0
-CommandComesTo told (solve ask) due = OverLibrary told ask.lib (SearchComesTo ask.log ask.branchings ALONE ALONE) due
+CommandComesTo told (solve ask) due = OverLibrary told ask.lib (SearchComesTo ask.log ask.branchings ask.workers ask.analysts) due
 CommandComesTo told (check lib log) due = OverLibrary told lib (λ l. Reads told log (VerdictComesTo l)) due
 CommandComesTo told (weigh lib arch) due = OverArchitecture told lib arch WeighingComesTo due
 CommandComesTo told (cuts lib arch sink) due = OverArchitecture told lib arch (CutsComeTo sink) due

@@ -42,11 +42,11 @@ pub record ShowsGenerated (ask : GenerateWords) (status : Status) (file_told log
 abbrev pub LeavesGenerated : GenerateWords → Option (List ℕ) → Option (List ℕ) → Option (List ℕ) → Option (List ℕ) → Type 0
 LeavesGenerated ask file_before file_now log_before log_now =
     (IsFrontOf file_before file_now (made_text ask) × (log_now ≡ log_before))
-    ⊎ (IsWhole file_now (made_text ask) × LeavesLog ALONE ALONE (solving ask) (Some (made_text ask)) log_before log_now)
+    ⊎ (IsWhole file_now (made_text ask) × LeavesLog (solving ask) (Some (made_text ask)) log_before log_now)
 
 -- both files stand whole, and a front of the summary was printed
 pub record CutsSummary (ask : GenerateWords) (file_told log_told before now : Option (List ℕ)) : Type 0 where
-  pub one : SomeSearch ALONE ALONE (solving ask) (Some (made_text ask))
+  pub one : SomeSearch (solving ask) (Some (made_text ask))
   pub file : IfSome file_told (λ bytes. bytes ≡ made_text ask)
   pub log : IfSome log_told (λ log. log ≡ search_log one.lib BRANCHINGS one.entries one.state one.answer)
   pub front : List ℕ

@@ -1,5 +1,6 @@
 pub mod Status
 pub mod Words
+pub mod Team
 pub mod Commands
 pub mod Cheapest
 pub mod Search

@@ -67,8 +67,8 @@ pub record ShowsAnswer (workers analysts : ℕ) (lib : LibraryParts) (limit : �
   pub cuts_hold : (first rest : List Entry) (worker node : ℕ) (cut : Cut) → entries ≡ first ++ Publish worker node cut ∷ rest
       → CutHolds lib limit first worker node cut
 
--- what a run by a team of workers and analysts shows with these words and this status, from what the shelf told of the library at the start, what it tells of the log at the end, and what was printed before and after
-pub record ShowsSearch (workers analysts : ℕ) (ask : SolveWords) (status : Status) (lib_told log_told before now : Option (List ℕ)) : Type 0 where
+-- what a run shows with these words, whose workers and analysts searched, and this status, from what the shelf told of the library at the start, what it tells of the log at the end, and what was printed before and after
+pub record ShowsSearch (ask : SolveWords) (status : Status) (lib_told log_told before now : Option (List ℕ)) : Type 0 where
   -- the library that was read: that of the bytes that the shelf told, or where it told none, of some bytes
   pub bytes : List ℕ
   pub told : IfSome lib_told (λ all. bytes ≡ all)
@@ -78,7 +78,7 @@ pub record ShowsSearch (workers analysts : ℕ) (ask : SolveWords) (status : Sta
   pub entries : List Entry
   pub state : SearchState
   pub answer : Answer
-  pub shows : ShowsAnswer workers analysts lib ask.branchings entries state answer
+  pub shows : ShowsAnswer ask.workers ask.analysts lib ask.branchings entries state answer
   -- the status is the answer's
   pub ended_so : status ≡ status_of (ending_of answer)
   -- the answer's report was printed, and nothing else
@@ -86,8 +86,8 @@ pub record ShowsSearch (workers analysts : ℕ) (ask : SolveWords) (status : Sta
   -- the bytes under the log's name are the log of this history
   pub log : IfSome log_told (λ log. log ≡ search_log lib ask.branchings entries state answer)
 
--- a search by a team with these words, of the library that the shelf told, or where it told none, of some library
-pub record SomeSearch (workers analysts : ℕ) (ask : SolveWords) (lib_told : Option (List ℕ)) : Type 0 where
+-- a search with these words, by their workers and analysts, of the library that the shelf told, or where it told none, of some library
+pub record SomeSearch (ask : SolveWords) (lib_told : Option (List ℕ)) : Type 0 where
   pub bytes : List ℕ
   pub told : IfSome lib_told (λ all. bytes ≡ all)
   pub lib : LibraryParts
@@ -95,21 +95,21 @@ pub record SomeSearch (workers analysts : ℕ) (ask : SolveWords) (lib_told : Op
   pub entries : List Entry
   pub state : SearchState
   pub answer : Answer
-  pub search : IsSearch lib ask.branchings workers analysts entries state answer
+  pub search : IsSearch lib ask.branchings ask.workers ask.analysts entries state answer
 
 -- bytes are the front of the log of such a search
-pub record IsLogFront (workers analysts : ℕ) (ask : SolveWords) (lib_told : Option (List ℕ)) (front : List ℕ) : Type 0 where
-  pub one : SomeSearch workers analysts ask lib_told
+pub record IsLogFront (ask : SolveWords) (lib_told : Option (List ℕ)) (front : List ℕ) : Type 0 where
+  pub one : SomeSearch ask lib_told
   pub rest : List ℕ
   pub log : search_log one.lib ask.branchings one.entries one.state one.answer ≡ front ++ rest
 
 -- a run that stopped before its end left under the log's name what stood there, or where its bytes are told, such a front
-abbrev pub LeavesLog : ℕ → ℕ → SolveWords → Option (List ℕ) → Option (List ℕ) → Option (List ℕ) → Type 0
-LeavesLog workers analysts ask lib_told log_before log_now = (log_now ≡ log_before) ⊎ IfSome log_now (IsLogFront workers analysts ask lib_told)
+abbrev pub LeavesLog : SolveWords → Option (List ℕ) → Option (List ℕ) → Option (List ℕ) → Type 0
+LeavesLog ask lib_told log_before log_now = (log_now ≡ log_before) ⊎ IfSome log_now (IsLogFront ask lib_told)
 
 -- the log of one such search stands whole under its name, and a front of that search's report was printed
-pub record IsReportCut (workers analysts : ℕ) (ask : SolveWords) (lib_told log_told before now : Option (List ℕ)) : Type 0 where
-  pub one : SomeSearch workers analysts ask lib_told
+pub record IsReportCut (ask : SolveWords) (lib_told log_told before now : Option (List ℕ)) : Type 0 where
+  pub one : SomeSearch ask lib_told
   pub log : IfSome log_told (λ log. log ≡ search_log one.lib ask.branchings one.entries one.state one.answer)
   pub front : List ℕ
   pub rest : List ℕ
@@ -122,6 +122,6 @@ pub record IsRefusalCut (lib_told log_before log_now before now : Option (List �
   pub log_stays : log_now ≡ log_before
 
 -- what is left by a run whose text couldn't be printed whole: the one or the other
-abbrev pub CutsText : ℕ → ℕ → SolveWords → Option (List ℕ) → Option (List ℕ) → Option (List ℕ) → Option (List ℕ) → Option (List ℕ) → Type 0
-CutsText workers analysts ask lib_told log_before log_now before now =
-    IsReportCut workers analysts ask lib_told log_now before now ⊎ IsRefusalCut lib_told log_before log_now before now
+abbrev pub CutsText : SolveWords → Option (List ℕ) → Option (List ℕ) → Option (List ℕ) → Option (List ℕ) → Option (List ℕ) → Type 0
+CutsText ask lib_told log_before log_now before now =
+    IsReportCut ask lib_told log_now before now ⊎ IsRefusalCut lib_told log_before log_now before now

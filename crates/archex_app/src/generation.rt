@@ -24,6 +24,7 @@ use search_core::Answer;
 use search_core::limits::BRANCHINGS;
 use std::alloc::Global;
 use std::borrow::CowSlice;
+use worker_team::solve_alone;
 
 /// A library that was made from a number, and its search.
 #[derive(Drop)]
@@ -57,7 +58,9 @@ fn search_number(alloc: Global, number: u64, size: u32) -> Result<Made, Memory>
     ensures { IfOk result (IsMade number size) }
 {
     let Generated { text, library } = text_and_library(alloc, number, size)?;
-    let searched = search(alloc, library, BRANCHINGS)?;
+    let searched = search(alloc, library, BRANCHINGS, 1, 1, |problem| {
+        solve_alone(alloc, problem, BRANCHINGS)
+    })?;
     let summary = summarised(alloc, searched.problem.library(), &searched.solved.answer)?;
     Ok(Made {
         text,

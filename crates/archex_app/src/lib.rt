@@ -1,4 +1,4 @@
-//! The top call of the program: from words and files to a printed text.
+//! The top calls of the program: from words and files to a printed text.
 //!
 //! `run_plain` does what its words ask, over a shelf of files and a sink: `solve` searches a library
 //! for an admissible architecture of least cost, one that meets all patterns and whose required
@@ -8,8 +8,12 @@
 //! status says of the files' bytes and of all architectures, which fault is the cause of each status
 //! that isn't an answer, and which status always comes where nothing outside failed.
 //!
-//! The search is that of `worker_team`: branch and bound, a textbook method, with one worker and up
-//! to a limit of branchings. It leaves a history, entry by entry, of how the space of choices was
+//! `run` makes the same promise where `solve` searches with as many workers and analysts as it asks
+//! for, each worker in a thread of its own, whoever gets which node and in whatever order. It may
+//! wait, and its promise holds where it returns; `run_plain` searches with one worker, and returns.
+//!
+//! The search is that of `worker_team`: branch and bound, a textbook method, with up to a limit of
+//! branchings. It leaves a history, entry by entry, of how the space of choices was
 //! split, what was refuted and why, and which candidates were judged. The log of that history is
 //! written under its name, whole, before the report is printed, so that a reader who trusts nothing
 //! here can follow each entry and come to the same answer.
@@ -26,6 +30,7 @@
 
 mod architecture;
 mod check;
+mod commands;
 mod cuts;
 mod generation;
 mod library;
@@ -35,21 +40,21 @@ mod printing;
 mod probability;
 mod reading;
 mod row_list;
-mod run;
 mod search;
 mod sink;
 mod solve;
 mod status;
 mod sure;
 mod template_list;
+mod top;
 mod weigh;
 mod weights;
 mod words;
 mod writing;
 
-pub use run::run_plain;
 pub use status::Status;
 pub use sure::run_surely;
+pub use top::{run, run_plain};
 pub use words::{Command, WordFault, read_words};
 
 #[cfg(test)]
@@ -72,3 +77,5 @@ mod tests_of_probability;
 mod tests_of_requirements;
 #[cfg(test)]
 mod tests_of_searches;
+#[cfg(test)]
+mod tests_of_teams;

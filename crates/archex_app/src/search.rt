@@ -1,8 +1,7 @@
-// A search of a library with one worker.
-ghost use Rattle.std.specs.Prelude.{◌≡◌, ◌≤◌, IfOk, IfSome};
-ghost use Rattle.search_core.specs.declared.limits.TheConstants as limits;
+// A search of a library.
+ghost use Rattle.std.specs.Prelude.{◌≡◌, IfOk, IfSome};
+ghost use Rattle.worker_team.specs.Solved.{IsSolved};
 ghost use Rattle.archex_app.specs.Status.{status_of, ending_of};
-ghost use Rattle.archex_app.specs.ComesTo.{ALONE};
 ghost use Rattle.archex_app.specs.Inner.Searched.{HasBest, IsSearched};
 
 use crate::status::Status;
@@ -11,7 +10,7 @@ use binary_program::problem_of;
 use rows::{Problem, variable_count};
 use search_core::Answer;
 use std::alloc::Global;
-use worker_team::{Solved, solve_alone};
+use worker_team::Solved;
 
 /// A search that came to its end.
 #[derive(Drop)]
@@ -22,17 +21,27 @@ pub struct Searched {
     pub solved: Solved,
 }
 
-/// Searches a library up to a limit of branchings, with one worker.
-pub fn search(alloc: Global, lib: Library, limit: u32) -> Result<Searched, Memory>
-    requires { limit ≤ limits.BRANCHINGS }
-    ensures searched { IfOk result (IsSearched lib limit ALONE ALONE) }
+/// Makes the problem of a library, and lets `solve` search it. The limit of branchings, and how many
+/// workers and analysts there are, are those for which each answer of `solve` is right.
+pub fn search<S: FnOnce(&Problem) -> Result<Solved, Memory>>(
+    alloc: Global,
+    lib: Library,
+    limit: u32,
+    workers: u32,
+    analysts: u32,
+    solve: S,
+) -> Result<Searched, Memory>
+    requires callable { S.IsAlwaysCallable solve }
+    requires solves { (problem : _) (solved : _) → S.post solve problem solved
+        → IfOk solved (IsSolved problem.now limit workers analysts) }
+    ensures searched { IfOk result (IsSearched lib limit workers analysts) }
     ensures best { IfOk result (λ searched.
         IfSome searched.solved.best (HasBest searched.problem.library)) }
 {
     let problem = problem_of(alloc, lib)?;
     // read for what each problem keeps of its library and its rows
     let _count = variable_count(problem.library());
-    let solved = solve_alone(alloc, &problem, limit)?;
+    let solved = solve(&problem)?;
     Ok(Searched { problem, solved })
 }
 

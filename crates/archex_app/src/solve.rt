@@ -3,13 +3,12 @@ ghost use Rattle.std.specs.Prelude.{◌≡◌, ℕ, ◌≤◌, List, Ok, IfOk, I
 ghost use Rattle.std.specs.Cow.{cow_slice_items};
 ghost use Rattle.outside.specs.Faults.{Stay};
 ghost use Rattle.lib_read.specs.LibraryOf.{library_of};
-ghost use Rattle.search_core.specs.declared.limits.TheConstants as limits;
 ghost use Rattle.search_core.specs.Rules.{weights_of};
+ghost use Rattle.worker_team.specs.Solved.{IsSolved};
 ghost use Rattle.report.specs.Report.{report_text};
 ghost use Rattle.report.specs.Refusal.{refused_library_text};
 ghost use Rattle.archex_app.specs.Status.{status_of, ending_of, library_refused};
 ghost use Rattle.archex_app.specs.Words.{solve};
-ghost use Rattle.archex_app.specs.ComesTo.{ALONE};
 ghost use Rattle.archex_app.specs.Run.{Runs, seen};
 ghost use Rattle.archex_app.specs.Inner.Outcome.{StopsAt};
 ghost use Rattle.archex_app.specs.Inner.Searched.{HasBest, IsReportedUnder};
@@ -24,6 +23,7 @@ use arch_model::{Library, Memory};
 use incumbent::Best;
 use outside::{Shelf, Sink};
 use report::solve_text;
+use rows::Problem;
 use std::alloc::Global;
 use std::borrow::CowSlice;
 use worker_team::Solved;
@@ -74,14 +74,19 @@ fn report_of(alloc: Global, lib: &Library, solved: &Solved) -> Result<Outcome, M
 }
 
 // Searches the library under a name, and reports.
-fn report_under<F: Shelf>(
+fn report_under<F: Shelf, S: FnOnce(&Problem) -> Result<Solved, Memory>>(
     alloc: Global,
     shelf: &mut F,
     name: &str,
     limit: u32,
+    workers: u32,
+    analysts: u32,
+    solve: S,
 ) -> Result<Reported, Stop>
-    requires { limit ≤ limits.BRANCHINGS }
-    ensures reported { IfOk result (IsReportedUnder (F.told shelf.old name.now) limit ALONE ALONE) }
+    requires callable { S.IsAlwaysCallable solve }
+    requires solves { (problem : _) (solved : _) → S.post solve problem solved
+        → IfOk solved (IsSolved problem.now limit workers analysts) }
+    ensures reported { IfOk result (IsReportedUnder (F.told shelf.old name.now) limit workers analysts) }
     ensures reads_stay { OnOk result (Stay (F.read_faults shelf.old) (F.read_faults shelf.new)) }
     ensures stop { IfErr result (λ stop. StopsAt library_of library_refused refused_library_text
         (F.told shelf.old name.now) name.now stop (F.read_faults shelf.old) (F.read_faults shelf.new)) }
@@ -91,23 +96,29 @@ fn report_under<F: Shelf>(
     ensures writes_stay { Stay (F.write_faults shelf.old) (F.write_faults shelf.new) }
 {
     let lib = library_under(alloc, shelf, name)?;
-    let searched = search(alloc, lib, limit)?;
+    let searched = search(alloc, lib, limit, workers, analysts, solve)?;
     let report = report_of(alloc, searched.problem.library(), &searched.solved)?;
     Ok(Reported { searched, report })
 }
 
-/// Does what `solve` asks: reads the library, searches it with one worker up to a limit of
-/// branchings, writes the log of the search, whole, and prints its report.
-pub fn solve_library<F: Shelf, O: Sink>(
+/// Does what `solve` asks: reads the library, lets `search` search its problem, writes the log of the
+/// search, whole, and prints its report. The limit of branchings, and how many workers and analysts
+/// there are, are those for which each answer of `search` is right.
+pub fn solve_library<F: Shelf, O: Sink, S: FnOnce(&Problem) -> Result<Solved, Memory>>(
     alloc: Global,
     lib: &str,
     log: &str,
     limit: u32,
+    workers: u32,
+    analysts: u32,
+    search: S,
     shelf: &mut F,
     out: &mut O,
 ) -> Status
-    requires { limit ≤ limits.BRANCHINGS }
-    ensures run { (workers analysts : ℕ) → Runs (Ok (solve (record {
+    requires callable { S.IsAlwaysCallable search }
+    requires solves { (problem : _) (solved : _) → S.post search problem solved
+        → IfOk solved (IsSolved problem.now limit workers analysts) }
+    ensures run { Runs (Ok (solve (record {
       lib = lib.now;
       log = log.now;
       branchings = limit;
@@ -119,7 +130,7 @@ pub fn solve_library<F: Shelf, O: Sink>(
         (seen (F.told shelf.new) (F.read_faults shelf.new) (F.write_faults shelf.new)
         (O.told out.new) (O.faults out.new)) }
 {
-    match report_under(alloc, shelf, lib, limit) {
+    match report_under(alloc, shelf, lib, limit, workers, analysts, search) {
         Ok(reported) => {
             let searched = &reported.searched;
             let written = write_log(

@@ -8,8 +8,8 @@ ghost use Rattle.archex_app.specs.Endings.{MayEnd};
 ghost use Rattle.archex_app.specs.Complete.{Completes, UnlessNoMemory, CompletesGeneration};
 ghost use Rattle.archex_app.specs.Complete.{EndsOverLibrary, EndsOverArchitecture, EndsOverSink};
 
-use crate::run::run_plain;
 use crate::status::Status;
+use crate::top::run_plain;
 use outside::{SureShelf, SureSink};
 use std::alloc::Global;
 

@@ -4,14 +4,13 @@ use Rattle.std.specs.Cow.{cow_slice_items}
 use Rattle.outside.specs.Faults.{Rose, Stay, ChangesOnly}
 use Rattle.rows.specs.Parts.{ProblemParts}
 use Rattle.search_core.specs.declared.answer.Answer.{Answer}
-use Rattle.proof_log.specs.Log.{Accepts}
 use Rattle.log_checker.specs.declared.error.CheckError.{CheckError}
 use Rattle.log_checker.specs.declared.error.CheckError.TheVariants as error
 use Rattle.log_checker.specs.Text.{FirstBrokenLine}
 use Rattle.log_checker.specs.Reading.{TextParts, IsReading}
 use Rattle.archex_app.specs.declared.outcome.Outcome.{Outcome}
 use Rattle.archex_app.specs.declared.outcome.Stop.{Stop}
-use Rattle.archex_app.specs.declared.outcome.Stop.TheVariants.{NoMemory, Unread, Refused}
+use Rattle.archex_app.specs.declared.outcome.Stop.TheVariants.{NoMemory, Unread}
 use Rattle.archex_app.specs.declared.check.Halt.{Halt}
 use Rattle.archex_app.specs.declared.check.Halt.TheVariants.{Memory, Failed, No}
 use Rattle.archex_app.specs.Status.{status_of, done, log_refused}

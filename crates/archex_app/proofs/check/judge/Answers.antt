@@ -1,4 +1,4 @@
-use Rattle.std.proofs.Common.{◌≡◌, ℕ, ◌<◌, refl, sym, subst, ◌∙◌, arith, rules, Option, List}
+use Rattle.std.proofs.Common.{ℕ, ◌<◌, refl, sym, subst, ◌∙◌, arith, rules, Option, List}
 use Rattle.std.proofs.lemmas.Result.{err_from_is_err_and}
 use Rattle.archex_app.specs.Inner.Checking.{FeedsOn}
 use Rattle.archex_app.proofs.LogReading.{none_fed, fed_on, halts_on, reads_on, fewer, ends_yes, ends_no}

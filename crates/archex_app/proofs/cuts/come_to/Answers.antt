@@ -1,4 +1,4 @@
-use Rattle.std.proofs.Common.{refl, ap, ◌∙◌}
+use Rattle.std.proofs.Common.{refl}
 use Rattle.std.proofs.lemmas.Result.{err_from_is_err_and}
 use Rattle.report.specs.Sets.{cuts_text}
 use Rattle.archex_app.proofs.Coming.{OfSink, stops_at_library, stops_at_architecture, sink_unnamed, sink_found}

@@ -12,5 +12,5 @@ report_of-requires g c = subst (λ (l : LibraryParts). IfSome c.in_ok-searched.s
 pub returns-clause-reported : goal.returns-clause-reported
 returns-clause-reported g c =
     let solved = c.in_ok-searched.searched.solved in
-    reported_is (g.F.Shelf.told c.args.shelf.now c.args.name.now) c.in_ok-lib.lib c.args.limit _ c.in_ok-lib.ensures.library c.in_ok-searched.ensures.searched c.in_ok-report.ensures.status
+    reported_is (g.F.Shelf.told c.args.shelf.now c.args.name.now) c.in_ok-lib.lib c.args.limit c.args.workers c.args.analysts _ c.in_ok-lib.ensures.library c.in_ok-searched.ensures.searched c.in_ok-report.ensures.status
     (c.in_ok-report.ensures.text ∙ ap (λ (l : LibraryParts). report_text l solved.answer solved.best solved.branchings solved.cuts) c.library.ensures.library)

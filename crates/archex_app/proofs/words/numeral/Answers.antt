@@ -1,4 +1,4 @@
-use Rattle.std.proofs.Common.{sym, subst, ◌∙◌, arith, ◌≡◌, ◌≤◌, ◌<◌, ◌^◌, true, false}
+use Rattle.std.proofs.Common.{sym, ◌∙◌, arith, ◌≡◌, ◌<◌, ◌^◌}
 use Rattle.archex_app.proofs.NumeralLaws.{numeral_found, numeral_none, same_parsed, no_parse, other_text}
 use Rattle.archex_app.proofs.words.numeral.Goals as goal
 use Rattle.archex_app.proofs.words.numeral.Goals.{else-is_text_of-via-then-is_text_of+then-least-number+else-number-most, else-is_text_of-via-then-is_text_of+else-least-number, else-is_text_of-via-else-is_text_of}
